@@ -35,7 +35,7 @@ use br_model::tree::TreeEvent;
 use bridge_plans::EventFault;
 use bridge_plans::ageing::{loses, passes_to};
 use bridge_plans::commands::{link_change, obey};
-use bridge_plans::learning::{Lesson, is_taken, lesson_of, taught, teaches};
+use bridge_plans::learning::{Lesson, is_taken, learn, taught, teaches};
 use bridge_plans::plan::Plan;
 use bridge_plans::snooping::{Speaker, most_changes, who_speaks};
 use bridge_plans::spanning_tree::{add_frames, add_states, heard, reserve_frames};
@@ -292,12 +292,9 @@ impl Bridge {
     fn learn_at(&mut self, port: Port, vid: Vid, mac: Mac) -> Result<(), EventFault>
         ensures { CarriesQuietly self.old self.new result (learns port (Some (vid, mac)) (standing self.old)) }
     {
-        match lesson_of(&self.state, vid, mac, port) {
+        match learn(&mut self.state, vid, mac, port) {
             Lesson::Known => Ok(()),
-            Lesson::Renewed => {
-                self.state.renew(vid, mac);
-                Ok(())
-            }
+            Lesson::Renewed => Ok(()),
             Lesson::News => self.make_change(Change::AddrPut {
                 vid,
                 mac,
