@@ -1,5 +1,5 @@
 //! The control plane: the accepted changes, and the reaction to an event.
-ghost use Rattle.std.specs.Prelude.{◌≡◌, ◌≤◌, ◌<◌, ◌+◌, ◌^◌, ◌++◌, ◌∷◌, [], List, length, drop, option_map, true, false, None, Some, Ok, IfOk, IfSome, IsSome, vec_len, vec_capacity};
+ghost use Rattle.std.specs.Prelude.{◌≡◌, ◌≤◌, ◌<◌, ◌+◌, ◌^◌, ◌++◌, ◌∷◌, [], List, length, drop, option_map, true, false, None, Some, Ok, IfOk, OnOk, OnErr, IfSome, IsSome, vec_len, vec_capacity};
 ghost use Rattle.std.specs.List.{list_all};
 ghost use Rattle.br_model.specs.Control.Control.{first_control};
 ghost use Rattle.br_model.specs.Control.Course.{makes_all};
@@ -80,12 +80,28 @@ impl Model for Bridge {
         × IsTrue (all_fit start b.history.items) × (b.state.clock.now < 2 ^ 53) × IsTied (table_of b.state) b.state.groups };
 }
 
+/// Appends the changes, and takes the room for them. Where there are none, it does nothing.
+fn extend(history: &mut Vec<Change>, changes: &[Change]) -> Result<(), NoMemory>
+    ensures ok { OnOk result (history.new.items ≡ history.old.items ++ changes.now) }
+    ensures err { OnErr result (history.new.items ≡ history.old.items) }
+    ensures capacity { vec_capacity history.old ≤ vec_capacity history.new }
+    ensures full { OnErr result (vec_capacity history.old < vec_len history.old + length changes.now) }
+{
+    if changes.is_empty() {
+        return Ok(());
+    }
+    history.extend_from_slice(changes)?;
+    Ok(())
+}
+
 /// Appends the changes within the room that is there.
 fn append(history: &mut Vec<Change>, changes: &[Change])
     requires { vec_len history.old + length changes.now ≤ vec_capacity history.old }
-    ensures { history.new.items ≡ history.old.items ++ changes.now }
+    ensures items { history.new.items ≡ history.old.items ++ changes.now }
+    ensures len { vec_len history.new ≡ vec_len history.old + length changes.now }
+    ensures capacity { vec_capacity history.old ≤ vec_capacity history.new }
 {
-    match history.extend_from_slice(changes) {
+    match extend(history, changes) {
         Ok(()) => {}
         Err(_) => unreachable!(),
     }
@@ -144,7 +160,7 @@ impl Bridge {
         if changes.len() > MOST_CHANGES - self.history.len() {
             return Err(EventFault::Refused(Refusal::HistoryFull));
         }
-        self.history.extend_from_slice(changes)?;
+        extend(&mut self.history, changes)?;
         self.state.prepare(clock, renewed);
         self.state.follow(changes);
         Ok(())
@@ -202,16 +218,15 @@ impl Bridge {
         if most > MOST_CHANGES - self.history.len() {
             return self.try_told(plan, event, lines);
         }
-        let mut changes = plan.changes;
-        changes.reserve(Port::PLACES)?;
         self.history.reserve(most)?;
         reserve_frames(lines)?;
+        let from = self.history.len();
+        append(&mut self.history, &plan.changes);
         let out = self.state.tree.act(event, plan.clock.now);
-        add_states(&mut changes, &self.state.tree, out.moved);
+        add_states(&mut self.history, &self.state.tree, out.moved);
         add_frames(self.own, &self.state.tree, &out, lines);
         self.state.prepare(plan.clock, plan.renewed);
-        self.state.follow(&changes);
-        append(&mut self.history, &changes);
+        self.state.follow(&self.history[from..]);
         Ok(())
     }
 
@@ -274,17 +289,15 @@ impl Bridge {
         requires records { RecordsStand bytes.now message.now }
         ensures { CarriesQuietly self.old self.new result (says speaker.now bytes.now message.now (carried_out self.old plan)) }
     {
-        let mut changes = plan.changes;
-        let most = most_changes(message);
-        if !self.has_room_for(alloc, changes.len(), speaker, bytes, message)? {
+        let planned = plan.changes.len();
+        if !self.has_room_for(alloc, planned, speaker, bytes, message)? {
             return Err(EventFault::Refused(Refusal::HistoryFull));
         }
-        changes.reserve(most)?;
-        self.history.reserve(changes.len() + most)?;
+        self.history.reserve(planned + most_changes(message))?;
         self.state.prepare(plan.clock, plan.renewed);
-        self.state.follow(&changes);
-        self.state.hear(speaker, bytes, message, &mut changes);
-        append(&mut self.history, &changes);
+        self.state.follow(&plan.changes);
+        append(&mut self.history, &plan.changes);
+        self.state.hear(speaker, bytes, message, &mut self.history);
         Ok(())
     }
 

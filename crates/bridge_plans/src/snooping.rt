@@ -38,7 +38,8 @@ pub struct Speaker {
 
 /// How many changes the message makes at most.
 pub fn most_changes(message: &McastMsg) -> usize
-    ensures { result ≡ most message.now }
+    ensures most { result ≡ most message.now }
+    ensures few { result < 2 ^ 16 }
 {
     match message {
         McastMsg::Records { count, .. } => usize::from(*count),

@@ -42,7 +42,7 @@ returns c =
       le-leb _ _ (let long = ap (λ (l : List Change). length l) h in omega (arith, c.if-changes-len.false, c.self.invariant.1, c.len.ensures)),
       λ i. record {
         setup = ap (λ (b : Controlled). b.setup) c.self.view_is i;
-        history = (c.in_ok-extend_from_slice.ensures.items ∙ ap (λ (l : List Change). l ++ c.args.changes.now) h) i;
+        history = (c.in_ok-extend.ensures.ok ∙ ap (λ (l : List Change). l ++ c.args.changes.now) h) i;
         control = (
             c.follow.ensures.control
             ∙ ap (λ (x : Control). fold keeps_up x c.args.changes.now) (c.prepare.ensures.control ∙ ap (λ (b : Controlled). renewed_at (clocked c.args.clock b.control) c.args.renewed) c.self.view_is)
@@ -55,7 +55,7 @@ invariant_of-self-2 c =
     let kept = c.self.invariant in
     let old = c.self.inside.history.items in
     let new = c.args.changes.now in
-    let grows = c.in_ok-extend_from_slice.ensures.items in
+    let grows = c.in_ok-extend.ensures.ok in
     let fit : all_fit (table old) new ≡ true = ap (λ (b : Controlled). all_fit (table b.history) new) c.self.view_is ∙ c.requires.fits in
     let table_is = c.follow.ensures.table ∙ ap (λ (t : Table). fold apply t new) (c.prepare.ensures.table ∙ kept.0) in
     let g = grown old new _ (table_of c.follow.new.self) grows table_is (omega (arith, c.if-changes-len.false, kept.1, c.len.ensures)) kept.2 fit in
