@@ -81,6 +81,7 @@ impl Model for Bridge {
 }
 
 /// Appends the changes, and takes the room for them. Where there are none, it does nothing.
+#[inline(always)]
 fn extend(history: &mut Vec<Change>, changes: &[Change]) -> Result<(), NoMemory>
     ensures ok { OnOk result (history.new.items ≡ history.old.items ++ changes.now) }
     ensures err { OnErr result (history.new.items ≡ history.old.items) }
@@ -132,6 +133,7 @@ impl Bridge {
     }
 
     /// Makes one change, or refuses it where there is no room for it.
+    #[inline(always)]
     fn make_change(&mut self, change: Change) -> Result<(), EventFault>
         requires { all_fit (table self.old.history) (change ∷ []) ≡ true }
         ensures { Makes self.old self.new self.old.control (change ∷ []) result }
@@ -146,6 +148,7 @@ impl Bridge {
     }
 
     /// Sets the clock, renews the entry and makes the changes, or refuses them where they are too many.
+    #[inline(always)]
     fn make_changes(
         &mut self,
         clock: Clock,
@@ -231,6 +234,7 @@ impl Bridge {
     }
 
     /// Carries out a plan.
+    #[inline(always)]
     fn accept(&mut self, plan: Plan, lines: &mut Lines) -> Result<(), EventFault>
         requires sound { IsSound (table self.old.history) plan }
         requires room { 1 ≤ lines.old.rows }
@@ -494,6 +498,7 @@ impl Bridge {
 
     /// Reacts to the event, and adds the lines of the control frames that leave, with room for another line behind them. The
     /// answer is the place of the first new change in the history. A refusal and want of memory leave the bridge as it was.
+    #[inline(always)]
     #[tactic(auto, unfolding(br_model::specs::Control::Reaction::react))]
     pub fn answer(
         &mut self,
