@@ -1,5 +1,5 @@
 //! Numbers that their types keep in range: ports, domains, VLANs and addresses.
-ghost use Rattle.std.specs.Prelude.{◌≡◌, ◌==◌, ◌≤◌, ◌<◌, ◌*◌, ◌^◌, ◌↔◌, IsSome, IfSome};
+ghost use Rattle.std.specs.Prelude.{◌≡◌, ◌==◌, ◌≤◌, ◌<◌, ◌+◌, ◌*◌, ◌^◌, ◌↔◌, IsSome, IfSome};
 ghost use Rattle.br_model.specs.Data.Numbers.{number, is_multicast};
 ghost use Rattle.br_model.specs.Forward.Targets.{is_for_the_host};
 ghost use Rattle.br_model.specs.Table.Domains.{last_chip, last_port, port_places};
@@ -194,6 +194,9 @@ impl Mac {
     /// FF-FF-FF-FF-FF-FF, as a number.
     pub const BROADCAST_ADDRESS: u64 = 0xFFFF_FFFF_FFFF;
 
+    /// How far apart the numbers of one address in two VLANs that follow one another are.
+    pub const VLAN_STEP: u64 = 1 << 48;
+
     /// 02:00:00:00:00:01, the bridge's own address where a scenario names none.
     pub const FIRST_OWN: Mac = Mac {
         number: 0x0200_0000_0001,
@@ -227,6 +230,17 @@ impl Mac {
         ensures below { self < 2 ^ 48 }
     {
         self.number
+    }
+
+    /// The number of the address in a VLAN: the VLAN above the 48 bits of the address.
+    #[inline(always)]
+    pub fn in_vlan(self, vid: Vid) -> u64
+        ensures value { result ≡ vid * 2 ^ 48 + self }
+        ensures low { 1 ≤ vid }
+        ensures high { vid ≤ 4094 }
+        ensures below { self < 2 ^ 48 }
+    {
+        u64::from(vid.number()) * Mac::VLAN_STEP + self.number
     }
 
     /// Whether it names a group: the lowest bit of the first byte.

@@ -25,7 +25,7 @@ pub fn shares_together()
         → in_port_order (both_shares domains t t port bytes head) ≡ leave t port bytes head }
 {}
 
-/// And never both to one port, by whichever table software decides later.
+/// The chip and software never both send a frame to one port, by whichever table software decides later.
 pub fn shares_apart()
     ensures { (domains : Domains) (t later : Table) (port : ℕ) (bytes : List ℕ) (head : Head) → is_some (domain_of domains port) ≡ true
         → (q : ℕ) → times q (both_shares domains t later port bytes head) ≤ 1 }
