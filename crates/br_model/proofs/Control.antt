@@ -1,6 +1,10 @@
+pub mod Aside
 pub mod Clocks
 pub mod CoursesTied
 pub mod EndsTied
 pub mod ReactionSteps
 pub mod Refusals
 pub mod SnoopSteps
+pub mod StampsTied
+pub mod StatesAgree
+pub mod StatesFit

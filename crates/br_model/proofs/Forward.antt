@@ -1,2 +1,4 @@
 pub mod States
 pub mod Stations
+pub mod Wanted
+pub mod Needed

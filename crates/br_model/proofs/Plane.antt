@@ -10,6 +10,8 @@ pub mod History
 pub mod Kept
 pub mod Noting
 pub mod Once
+pub mod Reacting
+pub mod Refused
 pub mod Reports
 pub mod Running
 pub mod Shares

@@ -100,7 +100,7 @@ module _ (n : ℕ) where
       elim (is_in_domain setup.domains software port) as (λ b. At n (cond b (learns port (teach r.table port head) r) r)) [ true ↦ learns-at r port (teach r.table port head) p | false ↦ p ]
 
   snoops-at : (port : ℕ) (bytes : List ℕ) (head : Head) (r : Course) → At n r → At n (snoops port bytes head r)
-  snoops-at = snoops-keeps (At n) makes-at (λ r m end there p. p) (λ r six known p. p) (λ r port there p. p)
+  snoops-at = snoops-keeps (At n) (λ r c _ p. makes-at r c p) (λ r m end there p. p) (λ r six known p. p) (λ r port there p. p)
 
   sees-at : (setup : Setup) (r : Course) (port : ℕ) (bytes : List ℕ) (head : Head) → At n r → At n (sees setup port bytes head r)
   sees-at setup r port bytes head p =

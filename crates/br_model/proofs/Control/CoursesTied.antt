@@ -68,7 +68,7 @@ module _ (t : Table) (e : Ends) (tied : IsTied t e) where
 
 pub said-tied : (port vid : ℕ) (bytes : List ℕ) (m : McastMsg) (r : Course) → Tied r → Tied (said port vid bytes m r)
 said-tied =
-    said-keeps Tied makes-tied
+    said-keeps Tied (λ r c _ tied. makes-tied r c tied)
     (λ r m end there tied. member-renewed r.table r.control.ends tied m (Some end) there)
     (λ r six known tied. querier-renewed r.table r.control.ends tied r.control.now six known)
     (λ r port there tied. router-renewed r.table r.control.ends tied r.control.now port there)
@@ -84,13 +84,13 @@ module _ (h : List Change) where
 
   snoops-stand : (port : ℕ) (bytes : List ℕ) (head : Head) (r : Course) → Stands r → Stands (snoops port bytes head r)
   snoops-stand =
-      snoops-keeps Stands makes-stand
+      snoops-keeps Stands (λ r c _ stands. makes-stand r c stands)
       (λ r m end there stands. (stands.0, member-renewed r.table r.control.ends stands.1 m (Some end) there))
       (λ r six known stands. (stands.0, querier-renewed r.table r.control.ends stands.1 r.control.now six known))
       (λ r port there stands. (stands.0, router-renewed r.table r.control.ends stands.1 r.control.now port there))
 
   happens-stands : (setup : Setup) (r : Course) (e : Event) → Stands r → IsKept Stands (happens setup r e)
-  happens-stands = happens-keeps Stands makes-stand (λ r k messages same stands. (stands.0, subst (λ e. IsTied r.table e) (sym same) stands.1)) snoops-stand
+  happens-stands = happens-keeps Stands makes-stand (λ r k messages same _ stands. (stands.0, subst (λ e. IsTied r.table e) (sym same) stands.1)) (λ r key port known stands. stands) snoops-stand
 
   abbrev Leaves : Result Reaction Refusal → Type 0
   Leaves (Err why) = Unit {0}

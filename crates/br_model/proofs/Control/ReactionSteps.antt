@@ -44,6 +44,10 @@ sets-ends : (k : Control) (c : Command) → (sets k c).ends ≡ k.ends
 sets-ends k (commands.Ageing seconds) = refl
 sets-ends k c = refl
 
+sets-updated : (k : Control) (c : Command) → (sets k c).updated ≡ k.updated
+sets-updated k (commands.Ageing seconds) = refl
+sets-updated k c = refl
+
 -- what is refused has no course
 abbrev pub IsKept : (Course → Type 0) → Result Course Refusal → Type 0
 IsKept P (Err why) = Unit {0}
@@ -52,7 +56,8 @@ IsKept P (Ok r) = P r
 module _
     (P : Course → Type 0)
     (by-change : (r : Course) (c : Change) → P r → P (makes r c))
-    (by-rest : (r : Course) (k : Control) (messages : List (ℕ × BpduMsg)) → k.ends ≡ r.control.ends → P r → P (record r { control = k; messages = messages }))
+    (by-rest : (r : Course) (k : Control) (messages : List (ℕ × BpduMsg)) → k.ends ≡ r.control.ends → k.updated ≡ r.control.updated → P r → P (record r { control = k; messages = messages }))
+    (by-renewal : (r : Course) (key : Address) (port : ℕ) → is_renewed r.table key port ≡ true → P r → P (record r { control = renewed r.control key }))
     (by-snooping : (port : ℕ) (bytes : List ℕ) (head : Head) (r : Course) → P r → P (snoops port bytes head r))
   where
     makes_all-keeps : (r : Course) (cs : List Change) → P r → P (makes_all r cs)
@@ -63,13 +68,13 @@ module _
     told-keeps r None p = p
     told-keeps r (Some event) p =
         let a = tree_step r.control.tree r.control.now event in
-        makes_all-keeps _ (states r.control.tree a.tree) (by-rest r (record r.control { tree = a.tree }) (r.messages ++ sent a) refl p)
+        makes_all-keeps _ (states r.control.tree a.tree) (by-rest r (record r.control { tree = a.tree }) (r.messages ++ sent a) refl refl p)
 
     commanded-keeps : (r : Course) (c : Command) (answer : Result (List Change) Refusal) → P r → IsKept P (commanded r c answer)
     commanded-keeps r c (Err why) p = tt
     commanded-keeps r c (Ok changes) p =
         let set = record r { control = sets r.control c } in
-        told-keeps (makes_all set changes) (tells r.table c) (makes_all-keeps set changes (by-rest r (sets r.control c) r.messages (sets-ends r.control c) p))
+        told-keeps (makes_all set changes) (tells r.table c) (makes_all-keeps set changes (by-rest r (sets r.control c) r.messages (sets-ends r.control c) (sets-updated r.control c) p))
 
     passes-keeps : (r : Course) (now : ℕ) → P r → IsKept P (passes_to now r)
     passes-keeps r now p =
@@ -79,14 +84,17 @@ module _
           | true ↦ tt
           | false ↦
               told-keeps (ends aged) (Some tree_events.Moment)
-              (makes_all-keeps aged (endings aged.control.now aged.control.ends) (makes_all-keeps later (forgets (expired r.table later.control)) (by-rest r later.control r.messages refl p)))
+              (makes_all-keeps aged (endings aged.control.now aged.control.ends) (makes_all-keeps later (forgets (expired r.table later.control)) (by-rest r later.control r.messages refl refl p)))
         ]
 
     learns-keeps : (r : Course) (port : ℕ) (o : Option Address) → P r → P (learns port o r)
     learns-keeps r port None p = p
     learns-keeps r port (Some key) p =
         makes_all-keeps (renews key port r) (taught r.table key port)
-        (elim (is_renewed r.table key port) as (λ b. P (cond b (record r { control = renewed r.control key }) r)) [ true ↦ by-rest r (renewed r.control key) r.messages refl p | false ↦ p ])
+        ((elim (is_renewed r.table key port) as (λ b. is_renewed r.table key port ≡ b → P (cond b (record r { control = renewed r.control key }) r)) [
+          | true ↦ λ known. by-renewal r key port known p
+          | false ↦ λ _. p
+        ]) refl)
 
     learns_of-keeps : (setup : Setup) (r : Course) (port : ℕ) (head : Head) → P r → P (learns_of setup port head r)
     learns_of-keeps setup r port head p =

@@ -26,12 +26,13 @@ use Rattle.br_model.specs.Wire.Records.{acts}
 use Rattle.br_model.specs.Control.Snooping.{fastleave, end_at, until, joins, leaves, leaves_from, acted, querier_heard, router_heard, said, snoops_in, snoops}
 use Rattle.br_model.specs.Table.Table.{apply}
 use Rattle.br_model.specs.Forward.Targets.{has_flag, knows_querier}
+use Rattle.br_model.proofs.Control.Aside.{is_aside}
 use Rattle.br_model.proofs.Table.GroupOrders.{membership_total}
 
 -- what keeps P: a change, and an end that is renewed, of what is there
 module _
     (P : Course → Type 0)
-    (by-change : (r : Course) (c : Change) → P r → P (makes r c))
+    (by-change : (r : Course) (c : Change) → is_aside c ≡ true → P r → P (makes r c))
     (by-member : (r : Course) (m : Membership) (end : ℕ) → is_some (get membership_cmp r.control.ends.groups m) ≡ true → P r → P (until end m r))
     (by-querier : (r : Course) (six : Bool) → knows_querier r.table six ≡ true → P r → P (record r { control = ends_with r.control (queries true r.control.ends r.control.now six) }))
     (by-router : (r : Course) (port : ℕ) → has nat_cmp r.table.routers port ≡ true → P r → P (record r { control = ends_with r.control (routes true r.control.ends r.control.now port) }))
@@ -59,7 +60,7 @@ module _
         (ap (λ b. is_some (get membership_cmp (cond b (record r { table = apply r.table c; control = keeps_up r.control c; changes = r.changes ++ c ∷ [] }) r).control.ends.groups m)) room
         ∙ ap is_some (find-put membership_cmp membership_total m m None r.control.ends.groups)
         ∙ ap (λ o. is_some (cond (is_eq o) (Some None) (get membership_cmp r.control.ends.groups m))) (tied_itself membership_total m))
-        (by-change r c p)
+        (by-change r c refl p)
 
     joins-keeps : (port vid : ℕ) (group : Group) (r : Course) → P r → P (joins port vid group r)
     joins-keeps port vid group r p =
@@ -74,7 +75,7 @@ module _
     leaves-keeps port vid group r p =
         let m : Membership = (vid, group, port) in
         at_end m (λ end. leaves_from port vid group end r) r
-        (λ end there. either (has_flag r.table port fastleave) _ _ (λ _. by-change r (changes.GroupPart port vid group) p) (λ _. by-member r m (min end (r.control.now + leave_time)) there p))
+        (λ end there. either (has_flag r.table port fastleave) _ _ (λ _. by-change r (changes.GroupPart port vid group) refl p) (λ _. by-member r m (min end (r.control.now + leave_time)) there p))
         p
 
     acted-keeps : (port vid : ℕ) (r : Course) (a : Act) → P r → P (acted port vid r a)
@@ -87,10 +88,10 @@ module _
     all-keep port vid r (a ∷ later) p = all-keep port vid (acted port vid r a) later (acted-keeps port vid r a p)
 
     querier-keeps : (six : Bool) (r : Course) → P r → P (querier_heard six r)
-    querier-keeps six r p = either (knows_querier r.table six) _ _ (λ known. by-querier r six known p) (λ _. by-change r (changes.Querier six true) p)
+    querier-keeps six r p = either (knows_querier r.table six) _ _ (λ known. by-querier r six known p) (λ _. by-change r (changes.Querier six true) refl p)
 
     router-keeps : (port : ℕ) (r : Course) → P r → P (router_heard port r)
-    router-keeps port r p = either (has nat_cmp r.table.routers port) _ _ (λ there. by-router r port there p) (λ _. by-change r (changes.Router port true) p)
+    router-keeps port r p = either (has nat_cmp r.table.routers port) _ _ (λ there. by-router r port there p) (λ _. by-change r (changes.Router port true) refl p)
 
     pub said-keeps : (port vid : ℕ) (bytes : List ℕ) (m : McastMsg) (r : Course) → P r → P (said port vid bytes m r)
     said-keeps port vid bytes Plain r p = p

@@ -44,8 +44,8 @@ module _ (h : List Change) where
 
   happens-on : (setup : Setup) (r : Course) (e : Event) → OnCourse h r → IsKept (OnCourse h) (happens setup r e)
   happens-on =
-      happens-keeps (OnCourse h) makes-on (λ r k messages same on. on)
-      (snoops-keeps (OnCourse h) makes-on (λ r m end there on. on) (λ r six known on. on) (λ r port there on. on))
+      happens-keeps (OnCourse h) makes-on (λ r k messages same _ on. on) (λ r key port known on. on)
+      (snoops-keeps (OnCourse h) (λ r c _ on. makes-on r c on) (λ r m end there on. on) (λ r six known on. on) (λ r port there on. on))
 
   -- what is accepted fits, and the history stays within its limit
   abbrev pub Accepts : Result Reaction Refusal → Type 0

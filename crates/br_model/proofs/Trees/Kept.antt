@@ -28,7 +28,7 @@ use Rattle.br_model.specs.Tree.Timers.{times, is_aged_out, is_held, is_hello_due
 use Rattle.br_model.specs.Tree.States.{blocking, listening, learning, enters, by_role, is_due, states_follow, states_move, is_opened_by_time}
 use Rattle.br_model.specs.Tree.Sending.{Acted, quiet, age_at, message_at, goes_out, transmitted, union, transmit}
 use Rattle.br_model.specs.Tree.Sending.{generate, is_put_off, drops_put_off, sends_put_off, notify, detected_at, detected, detected_if}
-use Rattle.br_model.specs.Tree.Step.{settled, port_up, port_down, becomes_root, stops_being_root, hands_over, detects, follows, restarted, on_at, off_at, switched, config_received, tcn_received}
+use Rattle.br_model.specs.Tree.Step.{settled, becomes_root, stops_being_root, hands_over, detects, follows, restarted, on_at, off_at, switched, config_received, tcn_received}
 use Rattle.br_model.specs.Tree.Step.{received_at, received, with_kept, acknowledged, passed_on, with_owed, states_due, change_due, tcn_due, hello_due, moment, tree_step, message}
 use Rattle.br_model.specs.Theorems.TreeLaws.{knows_states, HaveSent}
 
@@ -100,6 +100,10 @@ message-last x = by x.last
 tied : (p n : ℕ) → eq_by_cmp nat_cmp p n ≡ true → n ≡ p
 tied p n h = grind (arith, nat_tests)
 
+numbers-each : (f : ℕ × TreePort → TreePort) (es : List (ℕ × TreePort)) → numbers (each f es) ≡ numbers es
+numbers-each f [] = refl
+numbers-each f (e ∷ es) = ap (λ ns. e.0 ∷ ns) (numbers-each f es)
+
 -- what stands at a port after a change at each
 get-each : (f : ℕ × TreePort → TreePort) (p : ℕ) (es : List (ℕ × TreePort)) → get nat_cmp (each f es) p ≡ option_map (λ x. f (p, x)) (get nat_cmp es p)
 get-each f p [] = refl
@@ -166,11 +170,12 @@ IsSound t a = record {
   own : a.tree.own ≡ t.own;
   states : knows_states t ≡ true → knows_states a.tree ≡ true;
   sent : HaveSent a.tree a.config;
+  ports : numbers a.tree.ports ≡ numbers t.ports;
 }
 
 module _ (t : Tree) (now : ℕ) where
-  begins : (u : Tree) → u.own ≡ t.own → (knows_states t ≡ true → knows_states u ≡ true) → IsSound t (quiet u)
-  begins u own states = record { own = own; states = states; sent = All-nil (λ p. IsSome (message u p)) }
+  begins : (u : Tree) → u.own ≡ t.own → (knows_states t ≡ true → knows_states u ≡ true) → numbers u.ports ≡ numbers t.ports → IsSound t (quiet u)
+  begins u own states ports = record { own = own; states = states; sent = All-nil (λ p. IsSome (message u p)); ports = ports }
 
   sound-each : (f : ℕ × TreePort → TreePort) → ((e : ℕ × TreePort) → IsOnward e.1 (f e)) → (a : Acted) → IsSound t a
       → IsSound t (record a { tree = record a.tree { ports = each f a.tree.ports } })
@@ -179,6 +184,7 @@ module _ (t : Tree) (now : ℕ) where
     states = λ h. known-each f (λ e. (onward e).state) a.tree.ports (s.states h);
     sent = All-weaker (λ p. IsSome (message a.tree p)) (λ p. IsSome (message_in (get nat_cmp (each f a.tree.ports) p)))
         (λ p h. sent-each f (λ e. (onward e).last) p a.tree.ports h) a.config s.sent;
+    ports = numbers-each f a.tree.ports ∙ s.ports;
   }
 
   -- Messages
@@ -221,6 +227,7 @@ module _ (t : Tree) (now : ℕ) where
           own = before.own;
           states = before.states;
           sent = All-union has_sent_at (numbers (filter is_sent a.tree.ports)) a.config before.sent sent_all;
+          ports = before.ports;
         }
 
   sound-generate : (a : Acted) → IsSound t a → IsSound t (generate now a)
@@ -237,12 +244,12 @@ module _ (t : Tree) (now : ℕ) where
   -- Topology changes
 
   sound-detected_at : (o : Option ℕ) (a : Acted) → IsSound t a → IsSound t (detected_at now o a)
-  sound-detected_at None a s = record { own = s.own; states = s.states; sent = s.sent }
-  sound-detected_at (Some p) a s = record { own = s.own; states = s.states; sent = s.sent }
+  sound-detected_at None a s = record { own = s.own; states = s.states; sent = s.sent; ports = s.ports }
+  sound-detected_at (Some p) a s = record { own = s.own; states = s.states; sent = s.sent; ports = s.ports }
 
   sound-notify : (o : Option ℕ) (a : Acted) → IsSound t a → IsSound t (notify now o a)
   sound-notify None a s = s
-  sound-notify (Some p) a s = record { own = s.own; states = s.states; sent = s.sent }
+  sound-notify (Some p) a s = record { own = s.own; states = s.states; sent = s.sent; ports = s.ports }
 
   sound-detected_if : (b : Bool) (a : Acted) → IsSound t a → IsSound t (detected_if b now a)
   sound-detected_if b a s = cond_both b (detected now a) a (IsSound t) (λ _. sound-detected_at (root_of a.tree).port a s) (λ _. s)
@@ -283,8 +290,8 @@ module _ (t : Tree) (now : ℕ) where
   sound-hands_over : (before u : Tree) → IsSound t (quiet u) → IsSound t (quiet (hands_over before now u))
   sound-hands_over before u s =
       cond_both (becomes_root before u) (record u { notified = None; hello = now }) (cond (stops_being_root before u) (record u { change_end = None }) u) (λ v. IsSound t (quiet v))
-      (λ _. record { own = s.own; states = s.states; sent = s.sent })
-      (λ _. cond_both (stops_being_root before u) (record u { change_end = None }) u (λ v. IsSound t (quiet v)) (λ _. record { own = s.own; states = s.states; sent = s.sent }) (λ _. s))
+      (λ _. record { own = s.own; states = s.states; sent = s.sent; ports = s.ports })
+      (λ _. cond_both (stops_being_root before u) (record u { change_end = None }) u (λ v. IsSound t (quiet v)) (λ _. record { own = s.own; states = s.states; sent = s.sent; ports = s.ports }) (λ _. s))
 
   sound-settled : (kept : Bool) (before u : Tree) → IsSound t (quiet u) → IsSound t (settled kept before now u)
   unfolding settled
@@ -298,7 +305,7 @@ module _ (t : Tree) (now : ℕ) where
   -- Events
 
   itself-sound : IsSound t (quiet t)
-  itself-sound = begins t refl (λ h. h)
+  itself-sound = begins t refl (λ h. h) refl
 
   sound-at_port : (p : ℕ) (f : TreePort → TreePort) → ((x : TreePort) → IsOnward x (f x)) → (a : Acted) → IsSound t a
       → IsSound t (record a { tree = record a.tree { ports = at_port p f a.tree.ports } })
@@ -308,24 +315,14 @@ module _ (t : Tree) (now : ℕ) where
   sound-switched : (on : Bool) → IsSound t (switched t now on)
   sound-switched true =
       sound-generate _
-      (sound-states_follow _ (sound-roles _ (begins (on_at now t) refl (λ h. known-each (λ e. restarted blocking now e.1) (λ e _. omega arith) t.ports h))))
-  sound-switched false = begins (off_at now t) refl (λ h. known-each (λ e. restarted forwarding now e.1) (λ e _. omega arith) t.ports h)
-
-  sound-port_up : (p : ℕ) → IsSound t (port_up t now p)
-  sound-port_up p =
-      sound-follows t _
-      (begins (record t { ports = put nat_cmp t.ports p (fresh (cond t.on blocking forwarding) now) }) refl
-      (λ h. known-put p (fresh (cond t.on blocking forwarding) now) (cond_both t.on blocking forwarding (λ n. n ≤ 4) (λ _. omega arith) (λ _. omega arith)) t.ports h))
-
-  sound-port_down : (p : ℕ) → IsSound t (port_down t now p)
-  sound-port_down p =
-      sound-follows t _
-      (begins (record t { ports = without nat_cmp t.ports p }) refl (λ h. known-filter (λ e. not (eq_by_cmp nat_cmp p e.0)) t.ports h))
+      (sound-states_follow _ (sound-roles _ (begins (on_at now t) refl (λ h. known-each (λ e. restarted blocking now e.1) (λ e _. omega arith) t.ports h) (numbers-each (λ e. restarted blocking now e.1) t.ports))))
+  sound-switched false =
+      begins (off_at now t) refl (λ h. known-each (λ e. restarted forwarding now e.1) (λ e _. omega arith) t.ports h) (numbers-each (λ e. restarted forwarding now e.1) t.ports)
 
   sound-acknowledged : (flags : ℕ) (a : Acted) → IsSound t a → IsSound t (acknowledged flags a)
   sound-acknowledged flags a s =
       cond_both (flags / 128 % 2 == 1) (record a { tree = record a.tree { notified = None } }) a (IsSound t)
-      (λ _. record { own = s.own; states = s.states; sent = s.sent }) (λ _. s)
+      (λ _. record { own = s.own; states = s.states; sent = s.sent; ports = s.ports }) (λ _. s)
 
   sound-config_received : (e : ℕ × TreePort) (m : ConfigMsg) → IsSound t (config_received t now e m)
   sound-config_received e m =
@@ -361,7 +358,7 @@ module _ (t : Tree) (now : ℕ) where
   sound-change_due : (a : Acted) → IsSound t a → IsSound t (change_due now a)
   sound-change_due a s =
       cond_both (option_map_or (λ m. nat_le m now) a.tree.change_end false) (record a.tree { change_end = None }) a.tree (λ u. IsSound t (record a { tree = u }))
-      (λ _. record { own = s.own; states = s.states; sent = s.sent }) (λ _. s)
+      (λ _. record { own = s.own; states = s.states; sent = s.sent; ports = s.ports }) (λ _. s)
 
   sound-tcn_due : (a : Acted) → IsSound t a → IsSound t (tcn_due now a)
   sound-tcn_due a s =
@@ -370,7 +367,7 @@ module _ (t : Tree) (now : ℕ) where
   sound-hello_due : (a : Acted) → IsSound t a → IsSound t (hello_due now a)
   sound-hello_due a s =
       cond_both (is_root a.tree && is_hello_due now a.tree) (generate now (record a { tree = record a.tree { hello = now } })) a (IsSound t)
-      (λ _. sound-generate _ (record { own = s.own; states = s.states; sent = s.sent })) (λ _. s)
+      (λ _. sound-generate _ (record { own = s.own; states = s.states; sent = s.sent; ports = s.ports })) (λ _. s)
 
   sound-forgets : IsSound t (quiet (forgets now t))
   unfolding forgets
@@ -386,25 +383,45 @@ module _ (t : Tree) (now : ℕ) where
       (λ _. sound-sends_put_off _ (sound-hello_due _ (sound-tcn_due (change_due now moved) (sound-change_due moved (sound-states_due _ (sound-settled false t _ sound-forgets))))))
       (λ _. itself-sound)
 
-  sound : (event : TreeEvent) → IsSound t (tree_step t now event)
-  unfolding tree_step
-  sound (Switch on) = sound-switched on
-  sound (Up p) = sound-port_up p
-  sound (Down p) = sound-port_down p
-  sound (Message p m) = sound-received p m
-  sound Moment = sound-moment
-  sound (Cost p n) = sound-follows t _ (sound-at_port p (λ x. record x { cost = n }) (λ x. record { state = λ h. h; last = λ h. h }) (quiet t) itself-sound)
-  sound (PortPriority p n) = sound-follows t _ (sound-at_port p (λ x. record x { priority = n }) (λ x. record { state = λ h. h; last = λ h. h }) (quiet t) itself-sound)
-  sound (Priority n) = sound-follows t _ (begins (record t { priority = n }) refl (λ h. h))
+-- the tree with the port that the event brings, or without the one that it takes
+abbrev pub at_first : Tree → ℕ → TreeEvent → Tree
+at_first t now (Up p) = record t { ports = put nat_cmp t.ports p (fresh (cond t.on blocking forwarding) now) }
+at_first t now (Down p) = record t { ports = without nat_cmp t.ports p }
+at_first t now event = t
+
+sound : (t : Tree) (now : ℕ) (event : TreeEvent) → IsSound (at_first t now event) (tree_step t now event)
+unfolding tree_step
+sound t now (Switch on) = sound-switched t now on
+sound t now (Up p) = let u = at_first t now (Up p) in sound-follows u now t u (itself-sound u now)
+sound t now (Down p) = let u = at_first t now (Down p) in sound-follows u now t u (itself-sound u now)
+sound t now (Message p m) = sound-received t now p m
+sound t now Moment = sound-moment t now
+sound t now (Cost p n) = sound-follows t now t _ (sound-at_port t now p (λ x. record x { cost = n }) (λ x. record { state = λ h. h; last = λ h. h }) (quiet t) (itself-sound t now))
+sound t now (PortPriority p n) = sound-follows t now t _ (sound-at_port t now p (λ x. record x { priority = n }) (λ x. record { state = λ h. h; last = λ h. h }) (quiet t) (itself-sound t now))
+sound t now (Priority n) = sound-follows t now t _ (begins t now (record t { priority = n }) refl (λ h. h) refl)
+
+first-own : (t : Tree) (now : ℕ) (event : TreeEvent) → (at_first t now event).own ≡ t.own
+first-own t now (Up p) = refl
+first-own t now event = refl
+
+first-known : (t : Tree) (now : ℕ) (event : TreeEvent) → knows_states t ≡ true → knows_states (at_first t now event) ≡ true
+first-known t now (Up p) h =
+    known-put p (fresh (cond t.on blocking forwarding) now) (cond_both t.on blocking forwarding (λ n. n ≤ 4) (λ _. omega arith) (λ _. omega arith)) t.ports h
+first-known t now (Down p) h = known-filter (λ e. not (eq_by_cmp nat_cmp p e.0)) t.ports h
+first-known t now event h = h
+
+-- but for the one that comes or goes the ports stay
+pub ports-kept : (t : Tree) (now : ℕ) (event : TreeEvent) → numbers (tree_step t now event).tree.ports ≡ numbers (at_first t now event).ports
+ports-kept t now event = (sound t now event).ports
 
 pub known-first : (own : ℕ) → knows_states (first_tree own) ≡ true
 known-first own = refl
 
 pub known-kept : (t : Tree) (now : ℕ) (event : TreeEvent) → knows_states t ≡ true → knows_states (tree_step t now event).tree ≡ true
-known-kept t now event = (sound t now event).states
+known-kept t now event known = (sound t now event).states (first-known t now event known)
 
 pub messages-sent : (t : Tree) (now : ℕ) (event : TreeEvent) → HaveSent (tree_step t now event).tree (tree_step t now event).config
 messages-sent t now event = (sound t now event).sent
 
 pub own-kept : (t : Tree) (now : ℕ) (event : TreeEvent) → (tree_step t now event).tree.own ≡ t.own
-own-kept t now event = (sound t now event).own
+own-kept t now event = (sound t now event).own ∙ first-own t now event
