@@ -5,7 +5,19 @@
    a thread 512), and its memory by malloc, realloc and free. No pointer may be NULL, not even where a size is 0, and what is written may overlap
    nothing else that is passed.
 
-   The status of each call is pinned by a proof against the definitions of the bridge (docs/PROVED.md). */
+   The status of each call is pinned by a proof against the definitions of the bridge (docs/PROVED.md). What the calls answer, by status; the text
+   is the first *len bytes of `out`, and no byte of `out` behind it is changed:
+
+     status     *len              in `out`             a session afterwards
+     OK         of the text       the text             has taken the line or section
+     BAD_LINE   of the text       the text, of which   has taken it, and is behind its end
+                                  `bad N WHY` is last
+     NO_ROOM    of the text       nothing is written   has taken it, and keeps the text for the next call
+     USAGE      0                 nothing is written   as before
+     TOO_LONG   0                 nothing is written   as before
+     CLOSED     0                 nothing is written   as before
+     NO_MEMORY  0                 nothing is written   is closed
+*/
 #ifndef SWITCHBR_H
 #define SWITCHBR_H
 #include <stdbool.h>
@@ -15,6 +27,8 @@
 extern "C" {
 #endif
 
+#define SWITCHBR_VERSION "0.1.0"
+#define SWITCHBR_VERSION_NUMBER 0x000100 /* a byte each: major, minor, patch */
 #define SWITCHBR_ABI 2
 uint32_t switchbr_abi(void); /* another number than SWITCHBR_ABI: this header isn't the library's */
 
@@ -31,13 +45,24 @@ enum {
 };
 typedef uint8_t switchbr_status;
 
+/* In words, for a person. */
+static inline const char *switchbr_strerror(switchbr_status status) {
+    switch (status) {
+    case SWITCHBR_OK: return "success";
+    case SWITCHBR_DIFFERS: return "the transcript differs";
+    case SWITCHBR_USAGE: return "another line or section is wanted";
+    case SWITCHBR_BAD_LINE: return "a line is bad";
+    case SWITCHBR_NO_MEMORY: return "out of memory";
+    case SWITCHBR_TOO_LONG: return "the input is too long";
+    case SWITCHBR_NO_ROOM: return "the buffer has no room";
+    case SWITCHBR_CLOSED: return "the session is closed or at its end";
+    default: return "no status of this library";
+    }
+}
+
 /* These give the text that the program writes: the transcript of a scenario (`replay`), the table of lines of messages (`follow`), a
-   scenario of so many frames (`gen`). `out` has `room` bytes.
-   OK: the first *len bytes of `out` are the whole text, and the others are as they were.
-   BAD_LINE: so they are, and the text ends with a line `bad N WHY`.
-   NO_ROOM: the whole text has *len bytes, more than `room`. Nothing was written; the same call with more room gives the text.
-   TOO_LONG: more than 2^28 bytes are to be read, or more than 100,000 frames to be made. *len is 0, and nothing was written.
-   NO_MEMORY: likewise. */
+   scenario of so many frames (`gen`). `out` has `room` bytes. OK, BAD_LINE, NO_ROOM: the same call with *len bytes of room gives the text.
+   TOO_LONG: more than 2^28 bytes are to be read, or more than 100,000 frames to be made. NO_MEMORY. */
 switchbr_status switchbr_replay(const uint8_t *scenario, size_t size, uint8_t *out, size_t room, size_t *len);
 switchbr_status switchbr_follow(const uint8_t *messages, size_t size, uint8_t *out, size_t room, size_t *len);
 switchbr_status switchbr_generate(uint64_t number, uint32_t count, uint8_t *out, size_t room, size_t *len);
@@ -50,7 +75,7 @@ switchbr_status switchbr_check(const uint8_t *scenario, size_t size, const uint8
 
 /* A session takes a scenario line by line, and gives after each the lines of the transcript that it tells. All that it gives together is what
    `replay` gives of the same lines. It is yours: make it of zeroes, open it, lend it to one call at a time, end it, neither copy it nor
-   write to it, and use it in the thread that has opened it. */
+   write to it. Use it in the thread that has opened it: the proof is of a session that stays there, and nothing is promised of another. */
 typedef struct {
     void *at;
     bool is_open;
@@ -61,15 +86,12 @@ typedef struct {
 switchbr_status switchbr_open(switchbr_session *session);
 
 /* These give a session its next line, without the line feed, or behind a line `capture LENGTH` the whole section; `text` gives it nothing.
-   OK: the first *len bytes of `out` are all that is told of what was taken and wasn't given before; the others are as they were. Before the
-       first line that is `transcript 1`. Of the line `end` it is the last line; then only `text` and `end` remain.
-   BAD_LINE: likewise, and it ends with a line `bad N WHY`: the scenario has ended, as it has behind `end`.
-   NO_ROOM: likewise, but *len is more than `room`. Nothing was written; what was told is kept for the next call, as `text` with more room.
+   The text is all that is told of what was taken and wasn't given before; before the first line that is `transcript 1`. Of the line `end`
+   it is the last line; then only `text` and `end` remain.
+   NO_ROOM: `text` with *len bytes of room gives what was told.
    USAGE: the line has a line feed, or a section is wanted; no section is wanted, or one of another length.
    TOO_LONG: with it more than 2^28 bytes would be taken.
-   CLOSED: the session isn't open, or, but for `text`, its scenario has ended.
-   NO_MEMORY: the session is closed.
-   With one of these four *len is 0, nothing was written, and but for NO_MEMORY nothing was taken. */
+   CLOSED: the session isn't open, or, but for `text`, its scenario has ended. */
 switchbr_status switchbr_line(switchbr_session *session, const uint8_t *line, size_t size, uint8_t *out, size_t room, size_t *len);
 switchbr_status switchbr_section(switchbr_session *session, const uint8_t *section, size_t size, uint8_t *out, size_t room, size_t *len);
 switchbr_status switchbr_text(switchbr_session *session, uint8_t *out, size_t room, size_t *len);

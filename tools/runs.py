@@ -14,11 +14,14 @@ import itertools
 import os
 import pathlib
 import re
+import shutil
 import subprocess
 
 import scenarios
 
-PROGRAM = os.environ.get("SWITCHBR", pathlib.Path(__file__).resolve().parent.parent / "crates/switchbr/out/switchbr")
+BUILT = pathlib.Path(__file__).resolve().parent.parent / "crates/switchbr/out/switchbr"
+# of an installation that is the one on the PATH
+PROGRAM = os.environ.get("SWITCHBR") or (None if BUILT.exists() else shutil.which("switchbr")) or BUILT
 LISTINGS = ("monitor", "show fdb", "show vlan", "show mdb", "audit")
 COMES, OFFLOADED, EXTERN = 28, 0x20, 0x10
 # a step has at most a line for each port and the host, a message of the tree for each port, and four more

@@ -4,12 +4,14 @@ The shared object is $SWITCHBR_LIB, or the one beside this file, or that of the 
 docs/FORMATS.md of the repository has them. What is said of each call in c/switchbr.h holds here, too.
 """
 import ctypes
+import dataclasses
 import os
 import pathlib
 from types import TracebackType
 from typing import Callable, Dict, List, Optional, Type, Union
 
-__all__ = ["BadLine", "Session", "TooLong", "check", "follow", "generate", "replay"]
+__all__ = ["BadLine", "Sent", "Session", "TooLong", "check", "follow", "generate", "replay"]
+__version__ = "0.1.0"
 
 Text = Union[str, bytes]
 
@@ -39,13 +41,16 @@ _DECLARED = {
 
 
 def _opened() -> ctypes.CDLL:
-    near = next((str(place) for place in _PLACES if place.exists()), "libswitchbr.so.1")
-    lib = ctypes.CDLL(os.environ.get("SWITCHBR_LIB") or near)
+    near = next((str(place) for place in _PLACES if place.exists()), "libswitchbr.so.0.1")
+    try:
+        lib = ctypes.CDLL(os.environ.get("SWITCHBR_LIB") or near)
+    except OSError as fault:
+        raise ImportError(f"{fault}; build the library by `make -C c` and install it, or say by $SWITCHBR_LIB where it is") from fault
     for name, (result, words) in _DECLARED.items():
         call = getattr(lib, name)
         call.restype, call.argtypes = result, words
     if lib.switchbr_abi() != 2:
-        raise ImportError("libswitchbr.so is of another version")
+        raise ImportError(f"{lib._name} is of another version than this package ({__version__})")
     return lib
 
 
@@ -57,8 +62,11 @@ class BadLine(ValueError):
     told up to it and of it, in a session since the line before; of `check` both are empty."""
 
     def __init__(self, line: int, cause: str, text: str) -> None:
-        super().__init__(f"line {line} is bad" + (f": {cause}" if cause else ""))
+        super().__init__(line, cause, text)
         self.line, self.cause, self.text = line, cause, text
+
+    def __str__(self) -> str:
+        return f"line {self.line} is bad" + (f": {self.cause}" if self.cause else "")
 
 
 class TooLong(ValueError):
@@ -124,12 +132,39 @@ def check(scenario: Text, transcript: Text) -> Optional[int]:
     return line.value if status == _DIFFERS else None
 
 
+@dataclasses.dataclass(frozen=True)
+class Sent:
+    """What became of one frame."""
+
+    ports: Dict[int, bytes] = dataclasses.field(default_factory=dict)
+    """By which ports it left (0 is the host), and as which bytes."""
+    chip: Optional[str] = None
+    """The class that the chip of its port gave it (`drop`, `trap`, `copy`, `forward`); None at a software port."""
+    soft: Optional[int] = None
+    """The point by which software decided it: so many changes; None where it didn't come to software."""
+    unread: Optional[str] = None
+    """Why its bytes are no frame: `short`, `tagshort` or `long`."""
+    overrun: bool = False
+    """4,096 frames waited already, so it never reaches software."""
+    refused: Optional[int] = None
+    """The number of the refusal where the bridge couldn't learn from it (8); the frame was sent all the same."""
+    before: List[str] = dataclasses.field(default_factory=list)
+    """What was told of frames that had waited longer, and were served first."""
+
+
+def _ports(words: List[List[str]]) -> Dict[int, bytes]:
+    return {int(line[2]): bytes.fromhex(line[3]) for line in words if line[0] == "tx"}
+
+
 class Session:
     """A scenario line by line. Each call gives the lines of the transcript that it tells, without their line feeds. A bad line raises
     `BadLine`, and the scenario has ended, as behind its line `end`. A line that has a line feed, or that isn't wanted, as behind the end or in
-    the place of a section, is a `ValueError`, and nothing is done. A session stays in the thread that has made it."""
+    the place of a section, is a `ValueError`, and nothing is done. A session stays in the thread that has made it. With `publish=True` each
+    line that changes something is followed by a line `publish`, as in Linux, where software sees each change at once."""
 
-    def __init__(self) -> None:
+    def __init__(self, publish: bool = False) -> None:
+        self._publish = publish
+        self._entered: Optional[int] = 0
         self._handle, self._len, self._room = _Handle(), ctypes.c_size_t(), ctypes.create_string_buffer(4096)
         self._session = ctypes.byref(self._handle)
         _no_fault(_LIB.switchbr_open(self._session))
@@ -145,23 +180,49 @@ class Session:
         _no_bad_line(status, text)
         return text.splitlines()
 
-    def line(self, line: Text) -> List[str]:
-        """Takes the next line."""
+    def _taken(self, line: Text) -> List[str]:
         given = _given(line)
         return self._given(_LIB.switchbr_line(self._session, given, len(given), self._room, len(self._room), ctypes.byref(self._len)))
 
+    def line(self, line: Text) -> List[str]:
+        """Takes the next line."""
+        told = self._taken(line)
+        if _given(line).split()[:1] == [b"rx"] and self._entered is not None:
+            self._entered += 1
+        changed = any(last.startswith("ok ") and not last.endswith(" 0") for last in told[-1:])
+        return told + self._taken("publish") if self._publish and changed else told
+
     def section(self, section: bytes) -> List[str]:
         """Takes the whole section of the line `capture LENGTH` before."""
+        self._entered = None
         return self._given(_LIB.switchbr_section(self._session, section, len(section), self._room, len(self._room), ctypes.byref(self._len)))
 
-    def send(self, port: int, frame: bytes) -> Dict[int, bytes]:
-        """A frame enters at the port, and where it waits for software, a frame that waits is served: by which ports it leaves (0 is the host), and
-        as which bytes. Of several frames that wait the oldest is served. All that is told else, `line` gives: `rx PORT HEX`, then `serve`."""
-        told = self.line(f"rx {port} {frame.hex()}")
-        if not told or told[0].endswith((" copy", " trap")) and not told[-1].startswith("overrun "):
-            told += self.line("serve")
-        left = (line.split() for line in told if line.startswith("tx "))
-        return {int(by): bytes.fromhex(digits) for _, _, by, digits in left}
+    def send(self, port: int, frame: bytes) -> Sent:
+        """A frame enters at the port, and where it comes to software, all that wait are served up to it: what became of it. All else, `line`
+        does: `rx PORT HEX`, then `serve` or `hold`. Behind a section at software ports alone one `serve` more is made, which is refused."""
+        words = [line.split() for line in self.line(f"rx {port} {frame.hex()}")]
+        if words[:1] and words[0][0] == "unread":
+            self._entered = int(words[0][1])
+            return Sent(unread=words[0][2])
+        chip = words[0] if words and words[0][0] == "chip" else None
+        if words:
+            self._entered = int(words[0][1])
+        sent = Sent(_ports(words), chip[-1] if chip else None, overrun=words[-1:] == [["overrun", str(self._entered)]])
+        return sent if sent.overrun or sent.chip in ("drop", "forward") else self._served(sent)
+
+    def _served(self, sent: Sent) -> Sent:
+        """Frames wait in the order in which they came: the last that waits is this one."""
+        before: List[str] = []
+        told: List[str] = []
+        while self._entered is None or not told or told[0].split()[:2] != ["soft", str(self._entered)]:
+            serve = self.line("serve")
+            if serve[0].startswith("refused") and serve[0].endswith(" 10"):
+                break
+            before, told = before + told, serve
+        words = [line.split() for line in told]
+        refused = next((int(number) for kind, *_, number in words if kind == "refused"), None)
+        self._entered = int(words[0][1])
+        return dataclasses.replace(sent, ports={**sent.ports, **_ports(words)}, soft=int(words[0][3]), refused=refused, before=before)
 
     def close(self) -> None:
         """Frees the session, wherever it stands."""

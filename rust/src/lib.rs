@@ -39,6 +39,7 @@ extern "C" {
 
 /// Why there is no answer.
 #[derive(Debug, Clone, PartialEq, Eq)]
+#[non_exhaustive]
 pub enum Fault {
     /// This line of the input is bad, counted from 1, and this is told up to it and of it, in a session since the line before; of `check`
     /// nothing.
@@ -50,6 +51,8 @@ pub enum Fault {
     /// A session's line has a line feed, or a section is wanted; no section is wanted, or one of another length.
     Misplaced,
     NoMemory,
+    /// The library that was linked is of another version than this crate: its header says another `SWITCHBR_ABI`.
+    Version,
 }
 
 impl fmt::Display for Fault {
@@ -63,6 +66,7 @@ impl fmt::Display for Fault {
             Fault::Closed => to.write_str("closed"),
             Fault::Misplaced => to.write_str("misplaced"),
             Fault::NoMemory => to.write_str("no memory"),
+            Fault::Version => to.write_str("the linked library is of another version"),
         }
     }
 }
@@ -91,12 +95,12 @@ fn given(status: u8, out: Vec<u8>) -> Result<String, Fault> {
     Err(Fault::BadLine { line: line.expect("the last line is the bad one"), text })
 }
 
-fn assert_version() {
-    assert_eq!(unsafe { switchbr_abi() }, ABI, "libswitchbr.a is of another version");
+fn same_version() -> Result<(), Fault> {
+    if unsafe { switchbr_abi() } == ABI { Ok(()) } else { Err(Fault::Version) }
 }
 
 fn told(first_room: usize, call: impl Fn(*mut u8, usize, *mut usize) -> u8) -> Result<String, Fault> {
-    assert_version();
+    same_version()?;
     let mut len = first_room;
     let mut out = Vec::new();
     let status = loop {
@@ -111,6 +115,12 @@ fn told(first_room: usize, call: impl Fn(*mut u8, usize, *mut usize) -> u8) -> R
 }
 
 /// The transcript of a scenario, as `switchbr replay` writes it.
+///
+/// ```
+/// let told = switchbr::replay(b"scenario 1\nport 1 p1 soft\ncmd port up p1\nend\n")?;
+/// assert_eq!(told, "transcript 1\nok 1 3\nend 1 3 0 0\n");
+/// # Ok::<(), switchbr::Fault>(())
+/// ```
 pub fn replay(scenario: &[u8]) -> Result<String, Fault> {
     let (at, size) = (scenario.as_ptr(), scenario.len());
     told(4 * size + 4096, |out, room, len| unsafe { switchbr_replay(at, size, out, room, len) })
@@ -130,6 +140,7 @@ pub fn generate(number: u64, count: u32) -> Result<String, Fault> {
 
 /// The number of the first line in which the transcript isn't the scenario's, counted from 1; `None` where it is.
 pub fn check(scenario: &[u8], transcript: &[u8]) -> Result<Option<u32>, Fault> {
+    same_version()?;
     let mut line = 0;
     let status = unsafe { switchbr_check(scenario.as_ptr(), scenario.len(), transcript.as_ptr(), transcript.len(), &mut line) };
     match status {
@@ -142,14 +153,26 @@ pub fn check(scenario: &[u8], transcript: &[u8]) -> Result<Option<u32>, Fault> {
 
 /// A scenario line by line. Each call gives the lines of the transcript that it tells, the first one also `transcript 1`. Behind a bad line the
 /// scenario has ended, as behind its line `end`.
+///
+/// ```
+/// let mut session = switchbr::Session::open()?;
+/// for line in ["scenario 1", "port 1 p1 soft", "port 2 p2 soft", "cmd port up p1", "cmd port up p2", "publish"] {
+///     session.line(line.as_bytes())?;
+/// }
+/// session.line(b"rx 1 02000000000b02000000000a88b50102")?;
+/// let told = session.line(b"serve")?;
+/// assert_eq!(told.lines().next(), Some("soft 1 at 6"));
+/// # Ok::<(), switchbr::Fault>(())
+/// ```
 pub struct Session {
     handle: Handle,
     room: Vec<u8>,
 }
 
 impl Session {
+    /// Opens one, before the first line of a scenario.
     pub fn open() -> Result<Session, Fault> {
-        assert_version();
+        same_version()?;
         let mut session = Session { handle: Handle { at: null_mut(), is_open: false }, room: vec![0; 4096] };
         match unsafe { switchbr_open(&mut session.handle) } {
             OK => Ok(session),
@@ -177,6 +200,12 @@ impl Session {
     pub fn section(&mut self, section: &[u8]) -> Result<String, Fault> {
         let (at, size) = (section.as_ptr(), section.len());
         self.told(|handle, out, room, len| unsafe { switchbr_section(handle, at, size, out, room, len) })
+    }
+}
+
+impl fmt::Debug for Session {
+    fn fmt(&self, to: &mut fmt::Formatter<'_>) -> fmt::Result {
+        to.debug_struct("Session").field("is_open", &self.handle.is_open).finish_non_exhaustive()
     }
 }
 
