@@ -7,4 +7,5 @@ pub mod Sending
 pub mod ChipSteps
 pub mod Steps
 pub mod Traits
+pub mod LineTraits
 pub mod Runs

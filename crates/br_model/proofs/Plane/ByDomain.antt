@@ -1,5 +1,5 @@
 -- Each chip is found by its domain.
-use Rattle.std.proofs.Common.{◌≡◌, ℕ, ◌==◌, Bool, true, false, ◌||◌, cond, List, [], ◌∷◌, map, Option, None, Some, refl, sym, ◌∙◌, ap}
+use Rattle.std.proofs.Common.{◌≡◌, ℕ, ◌==◌, Bool, true, false, ◌||◌, cond, List, [], ◌∷◌, map, Some, refl, sym, ◌∙◌}
 use Rattle.std.specs.List.{filter, list_any}
 use Rattle.lemmas.proofs.Lists.{any-filter_none}
 use Rattle.br_model.specs.Plane.Chip.{Chip, chip_in}

@@ -7,6 +7,7 @@ use Rattle.std.proofs.lemmas.List.Elements.{filter-append, recursion_from_All, A
 use Rattle.std.proofs.lemmas.Grind.{flat_map-append}
 use Rattle.std.specs.Prelude.{◌==◌, nat_le, is_some}
 use Rattle.std.specs.List.{AllByRecursion, IsDistinct, filter, find}
+use Rattle.std.specs.Option.{option_map_or, option_zip}
 use Rattle.std.specs.Ordering.{nat_cmp}
 use Rattle.std.specs.declared.result.Result.{Result}
 use Rattle.std.specs.declared.result.Result.TheVariants.{Ok, Err}
@@ -44,6 +45,7 @@ use Rattle.br_model.specs.Plane.Steps.{does, world_step}
 use Rattle.br_model.specs.declared.steps.Step.{Step}
 use Rattle.br_model.specs.declared.steps.Step.TheVariants.{Rx, Serve, Hold, Post, Publish}
 use Rattle.br_model.specs.Theorems.Invariants.{frames_of, IsFrame, IsWorld}
+use Rattle.br_model.specs.Plane.LineTraits.{line_traits}
 use Rattle.br_model.specs.Plane.Sending.{Sent, sent_by, sent_of, times}
 use Rattle.br_model.specs.Theorems.FrameLines.{IsDecidedAt, is_line_of, lines_of}
 use Rattle.br_model.specs.Plane.World.{World, Waiting, Holding, Stepped, with_chip, table_at, table_of_chip, sent, control_lines, answered, reacts, refused}
@@ -98,17 +100,14 @@ lines-chip id i n k c out end e h =
 
 -- What was sent of a frame is in its own lines.
 
+silent-by : (id : ℕ) (frame : Option ℕ) (leaves : Option (ℕ × List ℕ)) → option_map_or (λ i. i == id) frame false ≡ false
+    → option_map_or (λ (x : ℕ × (ℕ × List ℕ)). cond (x.0 == id) (x.1 ∷ []) []) (option_zip frame leaves) [] ≡ []
+silent-by id None leaves e = refl
+silent-by id (Some i) None e = refl
+silent-by id (Some i) (Some x) e = ap (λ b. cond b (x ∷ []) []) e
+
 silent-line : (id : ℕ) (l : Line) → is_line_of id l ≡ false → sent_by id l ≡ []
-silent-line id (lines.Chip i changes applied class) e = refl
-silent-line id (lines.Unread i why) e = refl
-silent-line id (lines.Soft i point) e = refl
-silent-line id (lines.Held i floor) e = refl
-silent-line id (lines.Tx i port bytes) e = ap (λ b. cond b ((port, bytes) ∷ []) []) e
-silent-line id (lines.Ctl port bytes) e = refl
-silent-line id (lines.Overrun i) e = refl
-silent-line id (lines.Done step changes) e = refl
-silent-line id (lines.Refused step refusal) e = refl
-silent-line id (lines.End steps changes pending waiting) e = refl
+silent-line id l e = silent-by id (line_traits l).frame (line_traits l).leaves e
 
 sent-in : (id : ℕ) (told : List Line) → sent_of id told ≡ sent_of id (lines_of id told)
 sent-in id [] = refl

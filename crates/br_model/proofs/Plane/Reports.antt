@@ -1,5 +1,5 @@
 -- The oldest report of a chip, or none.
-use Rattle.std.proofs.Common.{◌≡◌, ℕ, [], drop, slice_get, Option, None, Some, ap, ◌∙◌}
+use Rattle.std.proofs.Common.{◌≡◌, ℕ, drop, slice_get, None, Some, ap, ◌∙◌}
 use Rattle.lemmas.proofs.Lists.{first_of_all, nil_from_no_first}
 use Rattle.br_model.specs.declared.steps.Event.TheVariants.{Told}
 use Rattle.br_model.specs.declared.steps.Refusal.TheVariants.{NothingReported}

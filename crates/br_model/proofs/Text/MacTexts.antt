@@ -1,5 +1,5 @@
 -- The text of a MAC address, written in parts one behind another.
-use Rattle.std.proofs.Common.{◌≡◌, ℕ, List, [], ◌∷◌, ◌++◌, ap, ◌∙◌}
+use Rattle.std.proofs.Common.{◌≡◌, ℕ, List, [], ◌∷◌, ◌++◌, ◌∙◌}
 use Rattle.lemmas.proofs.Lists.{three_parts}
 use Rattle.br_model.specs.Data.Digits.{hex_of}
 use Rattle.br_model.specs.Text.Spelling.{byte_at, mac_text}

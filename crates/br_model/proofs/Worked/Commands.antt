@@ -2,7 +2,7 @@
 use Rattle.std.proofs.Common.{◌≡◌, ◌+◌, [], ◌∷◌, ◌++◌, length, take, refl}
 use Rattle.br_model.specs.declared.listing.Listing.TheVariants.{Fdb, Vlan, Mdb}
 use Rattle.br_model.specs.declared.transcript.Line.{Line}
-use Rattle.br_model.specs.declared.transcript.Line.TheVariants.{Chip, Unread, Soft, Held, Tx, Ctl, Overrun, Done, Refused, End}
+use Rattle.br_model.specs.declared.transcript.Line.TheVariants.{Chip}
 use Rattle.br_model.specs.Program.Generator.{made}
 use Rattle.br_model.specs.Program.Listings.{listed}
 use Rattle.br_model.specs.Program.Summary.{kind_of, summary, summary_text}
@@ -78,12 +78,4 @@ kinds_counted = refl
 
 pub first_word : (line : Line) → take (length (kind_of line) + 1) (line_text line) ≡ kind_of line ++ 32 ∷ []
 first_word (Chip id changes applied class) = refl
-first_word (Unread id why) = refl
-first_word (Soft id point) = refl
-first_word (Held id floor) = refl
-first_word (Tx id port bytes) = refl
-first_word (Ctl port bytes) = refl
-first_word (Overrun id) = refl
-first_word (Done step changes) = refl
-first_word (Refused step why) = refl
-first_word (End steps changes pending waiting) = refl
+first_word line = refl

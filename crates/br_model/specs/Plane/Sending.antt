@@ -2,12 +2,13 @@
 -- Source: this profile.
 use Rattle.std.specs.Prelude.{ℕ, ◌==◌, nat_le, if◌then◌else◌, List, [], ◌∷◌, ◌++◌, length}
 use Rattle.std.specs.List.{filter, flat_map}
+use Rattle.std.specs.Option.{option_map_or}
 use Rattle.br_model.specs.declared.frame.Class.{Class}
 use Rattle.br_model.specs.declared.frame.Class.TheVariants.{Drop, Trap, Copy, Forward}
 use Rattle.br_model.specs.declared.frame.Head.{Head}
 use Rattle.br_model.specs.declared.transcript.Line.{Line}
-use Rattle.br_model.specs.declared.transcript.Line.TheVariants as lines
 use Rattle.br_model.specs.Forward.Class.{class}
+use Rattle.br_model.specs.Plane.LineTraits.{sends}
 use Rattle.br_model.specs.Table.Domains.{Domains}
 use Rattle.br_model.specs.Wire.Messages.{message}
 use Rattle.br_model.specs.Forward.Shares.{chip_out, mark_of, soft_out}
@@ -19,16 +20,7 @@ Sent = List (ℕ × List ℕ)
 
 -- what the line says was sent of the frame with this id
 abbrev pub sent_by : ℕ → Line → Sent
-sent_by id (lines.Chip i changes applied class) = []
-sent_by id (lines.Unread i why) = []
-sent_by id (lines.Soft i point) = []
-sent_by id (lines.Held i floor) = []
-sent_by id (lines.Tx i port bytes) = if i == id then (port, bytes) ∷ [] else []
-sent_by id (lines.Ctl port bytes) = []
-sent_by id (lines.Overrun i) = []
-sent_by id (lines.Done step changes) = []
-sent_by id (lines.Refused step refusal) = []
-sent_by id (lines.End steps changes pending waiting) = []
+sent_by id l = option_map_or (λ x. if x.0 == id then x.1 ∷ [] else []) (sends l) []
 
 abbrev pub sent_of : ℕ → List Line → Sent
 sent_of id told = flat_map (sent_by id) told

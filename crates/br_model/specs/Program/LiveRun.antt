@@ -5,12 +5,15 @@ use Rattle.std.specs.List.{filter, list_all, list_any}
 use Rattle.std.specs.Option.{is_some, option_map_or}
 use Rattle.std.specs.declared.option.Option.{Option}
 use Rattle.std.specs.declared.option.Option.TheVariants.{None, Some}
+use Rattle.std.specs.declared.result.Result.{Result}
+use Rattle.std.specs.declared.result.Result.TheVariants.{Ok, Err}
+use Rattle.br_model.specs.declared.steps.Refusal.{Refusal}
 use Rattle.br_model.specs.declared.steps.Refusal.TheVariants.{HistoryFull}
 use Rattle.br_model.specs.declared.steps.Step.{Step}
 use Rattle.br_model.specs.declared.transcript.Line.{Line}
-use Rattle.br_model.specs.declared.transcript.Line.TheVariants as lines
 use Rattle.br_model.specs.Control.Refusals.{refusal_number}
 use Rattle.br_model.specs.Plane.Chip.{Chip}
+use Rattle.br_model.specs.Plane.LineTraits.{line_traits}
 use Rattle.br_model.specs.Plane.Runs.{run, pending}
 use Rattle.br_model.specs.Plane.Steps.{world_step}
 use Rattle.br_model.specs.Plane.Traits.{traits}
@@ -115,18 +118,14 @@ ends_with_publish [] = false
 ends_with_publish (s ∷ []) = is_publish s
 ends_with_publish (s ∷ t ∷ steps) = ends_with_publish (t ∷ steps)
 
--- the history has no room for what the step would change
+-- whether a step was refused since the history has no room for what it would change
+abbrev pub is_full : Result ℕ Refusal → Bool
+is_full (Ok changes) = false
+is_full (Err why) = refusal_number why == refusal_number HistoryFull
+
+-- the same, as a line tells it
 abbrev pub says_full : Line → Bool
-says_full (lines.Chip id changes applied class) = false
-says_full (lines.Unread id why) = false
-says_full (lines.Soft id point) = false
-says_full (lines.Held id floor) = false
-says_full (lines.Tx id port bytes) = false
-says_full (lines.Ctl port bytes) = false
-says_full (lines.Overrun id) = false
-says_full (lines.Done step changes) = false
-says_full (lines.Refused step why) = refusal_number why == refusal_number HistoryFull
-says_full (lines.End steps changes pending waiting) = false
+says_full l = option_map_or (λ a. is_full a.1) (line_traits l).answer false
 
 -- the chip of this domain reports
 abbrev pub is_report_at : ℕ → Step → Bool

@@ -1,29 +1,20 @@
 -- The one line that `demo NUMBER COUNT` writes: the counts of the lines of a generated scenario's run.
 -- Source: this profile.
-use Rattle.std.specs.Prelude.{ℕ, List, [], ◌∷◌, ◌++◌, length, count_by, codes}
+use Rattle.std.specs.Prelude.{ℕ, List, [], ◌∷◌, ◌++◌, length, get_or, count_by, codes}
 use Rattle.std.specs.Fmt.{decimal}
 use Rattle.std.specs.Str.{bytes_eq}
 use Rattle.br_model.specs.declared.transcript.Line.{Line}
-use Rattle.br_model.specs.declared.transcript.Line.TheVariants.{Chip, Unread, Soft, Held, Tx, Ctl, Overrun, Done, Refused, End}
 use Rattle.br_model.specs.Program.Generator.{made}
 use Rattle.br_model.specs.Plane.Runs.{pending}
 use Rattle.br_model.specs.Plane.World.{Stepped}
 use Rattle.br_model.specs.Program.Runs.{run_of}
 use Rattle.br_model.specs.Text.Scenario.{scenario}
+use Rattle.br_model.specs.Text.Transcript.{line_words}
 use Rattle.br_model.specs.Text.Words.{Word}
 
 -- the first word of a line
 abbrev pub kind_of : Line → Word
-kind_of (Chip id changes applied class) = codes "chip"
-kind_of (Unread id why) = codes "unread"
-kind_of (Soft id point) = codes "soft"
-kind_of (Held id floor) = codes "held"
-kind_of (Tx id port bytes) = codes "tx"
-kind_of (Ctl port bytes) = codes "ctl"
-kind_of (Overrun id) = codes "overrun"
-kind_of (Done step changes) = codes "ok"
-kind_of (Refused step why) = codes "refused"
-kind_of (End steps changes pending waiting) = codes "end"
+kind_of l = get_or (line_words l) 0 []
 
 -- how many lines begin with this word
 abbrev pub count_of : Word → List Line → ℕ

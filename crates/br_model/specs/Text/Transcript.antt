@@ -25,20 +25,28 @@ class_word classes.Trap = codes "trap"
 class_word classes.Copy = codes "copy"
 class_word classes.Forward = codes "forward"
 
+-- a line's words, its kind first
+abbrev pub line_words : Line → List (List ℕ)
+line_words (Chip id changes applied class) = codes "chip" ∷ decimal id ∷ codes "at" ∷ decimal changes ∷ decimal applied ∷ class_word class ∷ []
+line_words (Unread id why) = codes "unread" ∷ decimal id ∷ fault_word why ∷ []
+line_words (Soft id point) = codes "soft" ∷ decimal id ∷ codes "at" ∷ decimal point ∷ []
+line_words (Held id floor) = codes "held" ∷ decimal id ∷ decimal floor ∷ []
+line_words (Tx id port bytes) = codes "tx" ∷ decimal id ∷ decimal port ∷ hex_of bytes ∷ []
+line_words (Ctl port bytes) = codes "ctl" ∷ decimal port ∷ hex_of bytes ∷ []
+line_words (Overrun id) = codes "overrun" ∷ decimal id ∷ []
+line_words (Done step changes) = codes "ok" ∷ decimal step ∷ decimal changes ∷ []
+line_words (Refused step why) = codes "refused" ∷ decimal step ∷ decimal (refusal_number why) ∷ []
+line_words (End steps changes pending waiting) = codes "end" ∷ decimal steps ∷ decimal changes ∷ decimal pending ∷ decimal waiting ∷ []
+
+-- words with a space between each two, and a line feed
+abbrev pub with_feed : List (List ℕ) → List ℕ
+with_feed [] = 10 ∷ []
+with_feed (w ∷ []) = w ++ 10 ∷ []
+with_feed (w ∷ v ∷ ws) = w ++ 32 ∷ with_feed (v ∷ ws)
+
 -- one line, with its line feed
 abbrev pub line_text : Line → List ℕ
-line_text (Chip id changes applied class) =
-    codes "chip " ++ (decimal id ++ (codes " at " ++ (decimal changes ++ (32 ∷ (decimal applied ++ (32 ∷ (class_word class ++ 10 ∷ [])))))))
-line_text (Unread id why) = codes "unread " ++ (decimal id ++ (32 ∷ (fault_word why ++ 10 ∷ [])))
-line_text (Soft id point) = codes "soft " ++ (decimal id ++ (codes " at " ++ (decimal point ++ 10 ∷ [])))
-line_text (Held id floor) = codes "held " ++ (decimal id ++ (32 ∷ (decimal floor ++ 10 ∷ [])))
-line_text (Tx id port bytes) = codes "tx " ++ (decimal id ++ (32 ∷ (decimal port ++ (32 ∷ (hex_of bytes ++ 10 ∷ [])))))
-line_text (Ctl port bytes) = codes "ctl " ++ (decimal port ++ (32 ∷ (hex_of bytes ++ 10 ∷ [])))
-line_text (Overrun id) = codes "overrun " ++ (decimal id ++ 10 ∷ [])
-line_text (Done step changes) = codes "ok " ++ (decimal step ++ (32 ∷ (decimal changes ++ 10 ∷ [])))
-line_text (Refused step why) = codes "refused " ++ (decimal step ++ (32 ∷ (decimal (refusal_number why) ++ 10 ∷ [])))
-line_text (End steps changes pending waiting) =
-    codes "end " ++ (decimal steps ++ (32 ∷ (decimal changes ++ (32 ∷ (decimal pending ++ (32 ∷ (decimal waiting ++ 10 ∷ [])))))))
+line_text l = with_feed (line_words l)
 
 -- lines, one after another
 abbrev pub text : List Line → List ℕ

@@ -1,18 +1,19 @@
 -- When a chip and software agree with one bridge on a frame, though each decides by a table of its own.
 -- Source: this profile.
-use Rattle.std.specs.Prelude.{◌≡◌, ℕ, ◌==◌, Bool, true, false, List, ◌∷◌, ◌++◌, length, take}
+use Rattle.std.specs.Prelude.{◌≡◌, ℕ, ◌==◌, Bool, true, false, ◌&&◌, List, ◌∷◌, ◌++◌, length, take}
 use Rattle.std.specs.List.{list_any}
 use Rattle.std.specs.declared.option.Option.TheVariants.{Some}
 use Rattle.br_model.specs.declared.steps.Step.{Step}
 use Rattle.br_model.specs.declared.steps.Step.TheVariants.{Rx}
 use Rattle.br_model.specs.declared.transcript.Line.{Line}
-use Rattle.br_model.specs.declared.transcript.Line.TheVariants as lines
 use Rattle.br_model.specs.Table.Domains.{domain_of}
 use Rattle.br_model.specs.Table.Setup.{Setup}
+use Rattle.br_model.specs.Theorems.FrameLines.{is_line_of}
 use Rattle.br_model.specs.Theorems.Invariants.{frames_of}
 use Rattle.br_model.specs.Plane.Runs.{run, pending_of}
 use Rattle.br_model.specs.Plane.Chip.{Chip}
 use Rattle.br_model.specs.Plane.Entering.{chip_of}
+use Rattle.br_model.specs.Plane.LineTraits.{line_traits}
 use Rattle.br_model.specs.Plane.World.{World}
 
 -- whether the frame with this id waits or is held
@@ -21,16 +22,7 @@ is_there id w = list_any (λ f. f.id == id) (frames_of w.held w.waiting)
 
 -- whether the line says that the frame with this id found no room to wait
 abbrev pub is_overrun : ℕ → Line → Bool
-is_overrun id (lines.Chip i changes applied class) = false
-is_overrun id (lines.Unread i why) = false
-is_overrun id (lines.Soft i point) = false
-is_overrun id (lines.Held i floor) = false
-is_overrun id (lines.Tx i port bytes) = false
-is_overrun id (lines.Ctl port bytes) = false
-is_overrun id (lines.Overrun i) = i == id
-is_overrun id (lines.Done step changes) = false
-is_overrun id (lines.Refused step refusal) = false
-is_overrun id (lines.End steps changes pending waiting) = false
+is_overrun id l = (line_traits l).overrun && is_line_of id l
 
 -- The chip of the port's domain has applied all that was accepted, and all of it is published.
 pub record IsSettled (w : World) (port : ℕ) : Type 0 where

@@ -3,6 +3,7 @@
 -- and points are this profile's.
 use Rattle.std.specs.Prelude.{◌≡◌, ℕ, ◌+◌, ◌≤◌, ◌==◌, nat_lt, Bool, true, false, List, [], ◌∷◌, ◌++◌, map, length}
 use Rattle.std.specs.List.{filter}
+use Rattle.std.specs.Option.{option_map_or}
 use Rattle.std.specs.Ordering.{nat_cmp}
 use Rattle.std.specs.declared.option.Option.{Option}
 use Rattle.std.specs.declared.option.Option.TheVariants.{None, Some}
@@ -17,6 +18,7 @@ use Rattle.br_model.specs.Data.Maps.{has}
 use Rattle.br_model.specs.Forward.Shares.{chip_out, mark_of, soft_out}
 use Rattle.br_model.specs.Plane.Chip.{Chip}
 use Rattle.br_model.specs.Plane.Entering.{class_of}
+use Rattle.br_model.specs.Plane.LineTraits.{line_traits}
 use Rattle.br_model.specs.Plane.Runs.{run}
 use Rattle.br_model.specs.Plane.World.{World, Waiting, Stepped, sent, table_at, table_of_chip}
 use Rattle.br_model.specs.Table.Limits.{most_waiting}
@@ -24,16 +26,7 @@ use Rattle.br_model.specs.Table.Setup.{Setup}
 
 -- whether the line is of the frame with this id
 abbrev pub is_line_of : ℕ → Line → Bool
-is_line_of id (lines.Chip i changes applied class) = i == id
-is_line_of id (lines.Unread i why) = i == id
-is_line_of id (lines.Soft i point) = i == id
-is_line_of id (lines.Held i floor) = i == id
-is_line_of id (lines.Tx i port bytes) = i == id
-is_line_of id (lines.Ctl port bytes) = false
-is_line_of id (lines.Overrun i) = i == id
-is_line_of id (lines.Done step changes) = false
-is_line_of id (lines.Refused step refusal) = false
-is_line_of id (lines.End steps changes pending waiting) = false
+is_line_of id l = option_map_or (λ i. i == id) (line_traits l).frame false
 
 -- its lines, in their order
 abbrev pub lines_of : ℕ → List Line → List Line
