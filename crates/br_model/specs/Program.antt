@@ -7,4 +7,5 @@ pub mod Outcomes
 pub mod Checks
 pub mod SameSteps
 pub mod LiveRun
+pub mod LiveRules
 pub mod LiveText

@@ -10,7 +10,6 @@ pub mod EndsTied
 pub mod StampsTied
 pub mod StatesAgree
 pub mod TreeLaws
-pub mod LiveRuns
 pub mod Wanted
 pub mod WholeLines
 pub mod WrittenSteps

@@ -4,7 +4,7 @@ ghost use Rattle.br_model.specs.declared.steps.Step.{Step};
 ghost use Rattle.br_model.specs.Program.LiveRun.{is_live_run};
 ghost use Rattle.br_model.specs.Program.SameSteps.{same_step};
 ghost use Rattle.br_model.specs.Text.Scenario.{Scenario};
-ghost use Rattle.br_model.specs.Theorems.LiveRuns.{IsLiveRun};
+ghost use Rattle.br_model.specs.Program.LiveRules.{IsLiveRun};
 ghost use Rattle.br_model.specs.Worked.LiveRuns.{judged, may_be, may_not_be, six_times, twelve_times_not, workers_written, workers_lines};
 
 /// Steps are the same where `==` says so.

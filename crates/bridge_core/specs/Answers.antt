@@ -36,7 +36,7 @@ IsEvent (Forget stations) = Unit {0}
 
 -- The changes were made and are the history's last ones, from this control state on; or there was no room for them, or no memory.
 abbrev pub Makes : {A : Type 0} → Controlled → Controlled → Control → List Change → Result A EventFault → Type 0
-Makes old new control changes (Ok _) =
+Makes old new control changes (Ok made) =
     (has_room old.history changes ≡ true) × (new ≡ record old { history = old.history ++ changes; control = fold keeps_up control changes })
 Makes old new control changes (Err (Refused why)) = (has_room old.history changes ≡ false) × (why ≡ HistoryFull) × (new ≡ old)
 Makes old new control changes (Err NoMemory) = new ≡ old
@@ -44,7 +44,7 @@ Makes old new control changes (Err NoMemory) = new ≡ old
 -- The changes of the reaction were made and are the history's last ones, and the lines of its messages were added; or nothing
 -- changed.
 abbrev pub Reacts : {A : Type 0} → Controlled → Controlled → List Line → List Line → Result A EventFault → Result Reaction Refusal → Type 0
-Reacts old new before after (Ok _) answer =
+Reacts old new before after (Ok reacted) answer =
     (r : Reaction) × (answer ≡ Ok r) × (new ≡ record old { history = old.history ++ r.changes; control = r.control })
     × (after ≡ before ++ control_lines old.setup.own r.messages)
 Reacts old new before after (Err (Refused why)) answer = (answer ≡ Err why) × (new ≡ old) × (after ≡ before)

@@ -14,14 +14,13 @@ use Rattle.std.proofs.lemmas.Bool.Decides.{nat_tests}
 use Rattle.std.proofs.lemmas.Float.{T_from_true}
 use Rattle.lemmas.proofs.Tests.{true_from_T}
 use Rattle.br_model.specs.declared.change.Kind.{Kind}
-use Rattle.br_model.specs.declared.change.Kind.TheVariants.{Local, Static, Learned, Extern}
-use Rattle.br_model.specs.Control.Ageing.{expires, is_old}
-use Rattle.br_model.specs.Control.Learning.{Address}
+use Rattle.br_model.specs.Control.Ageing.{is_old}
+use Rattle.br_model.specs.Control.Learning.{Address, is_learned}
 use Rattle.br_model.specs.Table.Limits.{most_addresses}
 use Rattle.br_model.specs.Data.Maps.{pair_cmp, get, put, without, is_ascending}
 use Rattle.br_model.proofs.Data.PairKeys.{pair_total}
 use Rattle.fdb_core.specs.declared.entries.Entry.{Entry}
-use Rattle.fdb_core.specs.Fdb.{Table, addresses, moments, place, keys_where, is_at_port, is_expired, is_learned, is_from, all_from, renewed_if}
+use Rattle.fdb_core.specs.Fdb.{Table, addresses, moments, place, keys_where, is_at_port, is_expired, is_from, all_from, renewed_if}
 use Rattle.fdb_core.proofs.Addresses.{get-told}
 use Rattle.bridge_plans.specs.Entries.{keys_at, old_keys, entries_of, IsKept}
 
@@ -123,27 +122,21 @@ has-moments (e ∷ es) up = (
   has-later e.0 e.1.updated (moments es) es (first_so _ _ up) (has-moments es (second_so _ _ up)),
 )
 
-learned_expires : (k : Kind) → is_learned k ≡ expires k
-learned_expires Local = refl
-learned_expires Static = refl
-learned_expires Learned = refl
-learned_expires Extern = refl
-
 old-as : (now hold : ℕ) (ms : List (Address × ℕ)) (es : Entries) → Has ms es
-    → keys_where (is_expired now hold) es ≡ map (λ e. e.0) (filter (λ e. expires e.1.1 && is_old now hold ms e.0) (addresses es))
+    → keys_where (is_expired now hold) es ≡ map (λ e. e.0) (filter (λ e. is_learned e.1.1 && is_old now hold ms e.0) (addresses es))
 old-as now hold ms [] h = refl
 old-as now hold ms (e ∷ es) h =
     by (is_expired now hold e.1) (old-as now hold ms es h.1)
     ∙ ap (λ b. map (λ (f : Address × (ℕ × Kind)). f.0) (cond b ((e.0, place e.1) ∷ rest) rest)) same
   where
     old : Address × (ℕ × Kind) → Bool
-    old f = expires f.1.1 && is_old now hold ms f.0
+    old f = is_learned f.1.1 && is_old now hold ms f.0
 
     rest : List (Address × (ℕ × Kind))
     rest = filter old (addresses es)
 
     same : is_expired now hold e.1 ≡ old (e.0, place e.1)
-    same = λ i. learned_expires e.1.kind i && option_map_or (λ u. nat_le (u + hold) now) (sym h.0 i) false
+    same = λ i. is_learned e.1.kind && option_map_or (λ u. nat_le (u + hold) now) (sym h.0 i) false
 
     by : (b : Bool) → keys_where (is_expired now hold) es ≡ map (λ (f : Address × (ℕ × Kind)). f.0) rest
         → map (λ (f : Address × Entry). f.0) (cond b (e ∷ filter (λ (f : Address × Entry). is_expired now hold f.1) es) (filter (λ (f : Address × Entry). is_expired now hold f.1) es))

@@ -4,8 +4,8 @@ use Rattle.std.specs.List.{filter}
 use Rattle.std.specs.declared.option.Option.{Option}
 use Rattle.std.specs.Option.{option_map_or, unwrap_or}
 use Rattle.br_model.specs.declared.change.Kind.{Kind}
-use Rattle.br_model.specs.Control.Ageing.{expires, is_old}
-use Rattle.br_model.specs.Control.Learning.{Address, is_dynamic}
+use Rattle.br_model.specs.Control.Ageing.{is_old}
+use Rattle.br_model.specs.Control.Learning.{Address, is_dynamic, is_learned}
 use Rattle.br_model.specs.Table.Limits.{most_addresses}
 use Rattle.br_model.specs.Data.Maps.{pair_cmp, get, is_ascending}
 use Rattle.fdb_core.specs.declared.entries.Entry.{Entry}
@@ -25,7 +25,7 @@ keys_at port addr = map (λ e. e.0) (filter (λ e. e.1.0 == port) addr)
 
 -- the learned addresses that are old at the moment `now`, where they stay for `hold`
 abbrev pub old_keys : ℕ → ℕ → Entries → List Address
-old_keys now hold s = map (λ e. e.0) (filter (λ e. expires e.1.1 && is_old now hold s.updated e.0) s.addr)
+old_keys now hold s = map (λ e. e.0) (filter (λ e. is_learned e.1.1 && is_old now hold s.updated e.0) s.addr)
 
 -- whether the bound is over by then: none of the entries is old before
 abbrev pub is_due : ℕ → ℕ → Entries → Bool

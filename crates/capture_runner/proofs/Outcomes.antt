@@ -10,7 +10,8 @@ use Rattle.br_model.specs.Program.Generator.{made}
 use Rattle.br_model.specs.Program.Outcomes.{Answers, Call, HasLines, Lines, scenario_lines}
 use Rattle.br_model.specs.Program.Summary.{summary}
 use Rattle.br_model.specs.Program.Runs.{bad_alone, bad_told, body, body_parts, told}
-use Rattle.br_model.specs.Text.Scenario.{Scenario, Bad}
+use Rattle.br_model.specs.Text.Scenario.{Scenario, Bad, scenario}
+use Rattle.br_model.proofs.Program.LiveRuns.{live_is}
 use Rattle.br_model.proofs.Program.Completing.{AreApart, never_bad, never_filled, never_found_bad, never_full, scenarios_apart}
 use Rattle.chip_audit.specs.Lines.{audited}
 use Rattle.scenario_reader.specs.declared.reader.Last.{Last as LastRead}
@@ -55,7 +56,7 @@ module _ (failed : Type 0) (left left_now before now : Option (List ℕ)) (r : S
           read = p.read;
           ends = p.ends;
           steps = p.steps;
-          live = p.live;
+          live = live_is p.steps (scenario p.input) p.live;
           written = p.written;
           wrote = subst (λ (b : List ℕ). Appends before after b) p.text_is a;
           whole = p.whole;

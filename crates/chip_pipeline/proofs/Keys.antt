@@ -3,20 +3,17 @@ use Rattle.std.proofs.Common.{◌≡◌, ℕ, true, false, ◌||◌, cond, Optio
 use Rattle.std.specs.Ordering.{is_eq}
 use Rattle.std.specs.declared.cmp.Ordering.{Ordering}
 use Rattle.std.specs.declared.cmp.Ordering.TheVariants.{Less, Equal, Greater}
-use Rattle.br_model.specs.declared.change.Kind.{Kind}
-use Rattle.br_model.specs.declared.change.Kind.TheVariants.{Local, Static, Learned, Extern}
 use Rattle.br_model.specs.declared.group.Group.{Group}
 use Rattle.br_model.specs.Table.Domains.{Domains}
 use Rattle.br_model.specs.Table.GroupPairs.{GroupPair, group_pair_cmp, group_pairs}
-use Rattle.br_model.specs.Control.Learning.{is_dynamic}
 use Rattle.br_model.specs.Data.Maps.{pair_cmp, get, has}
 use Rattle.br_model.specs.Table.Table.{Table}
 use Rattle.br_model.proofs.Table.GroupOrders.{equal_pairs}
 use Rattle.chip_tables.specs.declared.rows.AddressRow.{AddressRow}
 use Rattle.chip_tables.specs.declared.rows.FanRow.{FanRow}
 use Rattle.chip_tables.specs.Rows.{Rows, address_at, group_at}
-use Rattle.chip_tables.specs.Stands.{Stands, fan_wanted, is_grouped, is_pinned}
-use Rattle.chip_pipeline.specs.Ways.{entry_wanted, group_wanted, row_of_entry}
+use Rattle.chip_tables.specs.Stands.{Stands, address_wanted, fan_wanted, is_grouped}
+use Rattle.chip_pipeline.specs.Ways.{entry_wanted, group_wanted}
 
 -- what stands at a key of entries that are told otherwise
 pub get-told : {K X Y : Type 0} (R : K → K → Ordering) (f : X → Y) (es : List (K × X)) (k : K) → get R (map (λ e. (e.0, f e.1)) es) k ≡ option_map f (get R es k)
@@ -42,21 +39,10 @@ get-made R f (j ∷ js) k exact = step (R k j) refl (get-made R f js k exact)
 
 -- ---- addresses
 
-pinned-is : (kind : Kind) → is_pinned kind ≡ cond (is_dynamic kind) false true
-pinned-is Local = refl
-pinned-is Static = refl
-pinned-is Learned = refl
-pinned-is Extern = refl
-
 pub address-is : (d : Domains) (dom : ℕ) (rows : Rows) (t : Table) (vid mac : ℕ) → Stands d dom rows t → address_at rows vid mac ≡ entry_wanted t vid mac
 address-is d dom rows t vid mac stands =
     ap (λ (es : List ((ℕ × ℕ) × AddressRow)). get pair_cmp es (vid, mac)) stands.addresses
-    ∙ get-told pair_cmp (λ (e : ℕ × Kind). record { port = e.0; kind = e.1; pinned = is_pinned e.1 }) t.addr (vid, mac)
-    ∙ same (get pair_cmp t.addr (vid, mac))
-  where
-    same : (o : Option (ℕ × Kind)) → option_map {U = AddressRow} (λ e. record { port = e.0; kind = e.1; pinned = is_pinned e.1 }) o ≡ option_map row_of_entry o
-    same None = refl
-    same (Some e) = ap (λ b. Some (record { port = e.0; kind = e.1; pinned = b })) (pinned-is e.1)
+    ∙ get-told pair_cmp address_wanted t.addr (vid, mac)
 
 -- ---- groups
 

@@ -26,11 +26,11 @@ use Rattle.chip_tables.specs.declared.rows.FanRow.{FanRow}
 use Rattle.chip_tables.specs.declared.rows.Flood.{Flood}
 use Rattle.chip_tables.specs.declared.rows.Flood.TheVariants.{Unicast, Mcast, Bcast}
 use Rattle.chip_tables.specs.Rows.{Rows, flood_at}
-use Rattle.chip_tables.specs.Stands.{IsVid, Stands, is_flooded}
+use Rattle.chip_tables.specs.Stands.{IsVid, Stands, address_wanted, is_flooded}
 use Rattle.chip_pipeline.specs.declared.lookup.Way.{Way}
 use Rattle.chip_pipeline.specs.declared.lookup.Way.TheVariants.{Nowhere, One, Many}
 use Rattle.chip_pipeline.specs.Passed.{AtChip}
-use Rattle.chip_pipeline.specs.Ways.{IsMany, IsWay, Leads, entry_wanted, leaves_chip, row_of_entry}
+use Rattle.chip_pipeline.specs.Ways.{IsMany, IsWay, Leads, entry_wanted, leaves_chip}
 use Rattle.chip_pipeline.proofs.Reading.{foreign-is}
 
 -- ---- truth values
@@ -107,11 +107,11 @@ station-alone d t p vid head o station is =
     (not-reserved head.dst station) station
     ∙ ap (λ (x : Option (ℕ × Kind)). option_map_or (λ e. foreign d p (port_of e) && may t p (port_of e) vid) x false) is
 
-known-entry : (o : Option (ℕ × Kind)) (row : AddressRow) → Some row ≡ option_map row_of_entry o → (e : ℕ × Kind) × ((o ≡ Some e) × (row ≡ row_of_entry e))
+known-entry : (o : Option (ℕ × Kind)) (row : AddressRow) → Some row ≡ option_map address_wanted o → (e : ℕ × Kind) × ((o ≡ Some e) × (row ≡ address_wanted e))
 known-entry None row h = absurd (cc)
 known-entry (Some e) row h = (e, (refl, cc))
 
-no-entry : (o : Option (ℕ × Kind)) → None ≡ option_map row_of_entry o → o ≡ None
+no-entry : (o : Option (ℕ × Kind)) → None ≡ option_map address_wanted o → o ≡ None
 no-entry None h = refl
 no-entry (Some e) h = absurd (cc)
 

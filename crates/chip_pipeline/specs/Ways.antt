@@ -4,7 +4,6 @@ use Rattle.std.specs.declared.option.Option.{Option}
 use Rattle.std.specs.declared.option.Option.TheVariants.{None, Some}
 use Rattle.std.specs.Option.{option_map}
 use Rattle.std.specs.Ordering.{nat_cmp}
-use Rattle.br_model.specs.declared.change.Kind.{Kind}
 use Rattle.br_model.specs.declared.frame.Head.{Head}
 use Rattle.br_model.specs.declared.frame.McastMsg.{McastMsg}
 use Rattle.br_model.specs.declared.group.Group.{Group}
@@ -12,13 +11,12 @@ use Rattle.br_model.specs.Forward.Class.{crosses, reaches_host}
 use Rattle.br_model.specs.Table.Domains.{Domains, foreign, port_places}
 use Rattle.br_model.specs.Forward.Eligible.{may}
 use Rattle.br_model.specs.Table.GroupPairs.{group_pair_cmp, group_pairs}
-use Rattle.br_model.specs.Control.Learning.{is_dynamic}
 use Rattle.br_model.specs.Data.Maps.{pair_cmp, get, has}
 use Rattle.br_model.specs.Table.Table.{Table}
 use Rattle.br_model.specs.Forward.Targets.{targets}
 use Rattle.chip_tables.specs.declared.rows.AddressRow.{AddressRow}
 use Rattle.chip_tables.specs.declared.rows.FanRow.{FanRow}
-use Rattle.chip_tables.specs.Stands.{fan_wanted, is_grouped}
+use Rattle.chip_tables.specs.Stands.{address_wanted, fan_wanted, is_grouped}
 use Rattle.chip_pipeline.specs.declared.lookup.Way.{Way}
 use Rattle.chip_pipeline.specs.declared.lookup.Way.TheVariants.{Nowhere, One, Many}
 
@@ -50,13 +48,9 @@ IsMany domains dom t port vid goals Nowhere = ⊥
 IsMany domains dom t port vid goals (One q) = ⊥
 IsMany domains dom t port vid goals (Many row) = Leads domains dom t port vid row goals
 
--- the row of an entry
-abbrev pub row_of_entry : ℕ × Kind → AddressRow
-row_of_entry e = record { port = e.0; kind = e.1; pinned = if is_dynamic e.1 then false else true }
-
 -- the row that a table wants for an address
 abbrev pub entry_wanted : Table → ℕ → ℕ → Option AddressRow
-entry_wanted t vid mac = option_map row_of_entry (get pair_cmp t.addr (vid, mac))
+entry_wanted t vid mac = option_map address_wanted (get pair_cmp t.addr (vid, mac))
 
 -- the row that a table wants for a group: none where the group has no member
 abbrev pub group_wanted : Domains → ℕ → Table → ℕ → Group → Option FanRow

@@ -6,8 +6,8 @@ use Rattle.std.specs.List.{list_any, range_with_len}
 use Rattle.std.specs.Option.{unwrap_or}
 use Rattle.std.specs.Ordering.{nat_cmp}
 use Rattle.br_model.specs.declared.change.Kind.{Kind}
-use Rattle.br_model.specs.declared.change.Kind.TheVariants.{Local, Static, Learned, Extern}
 use Rattle.br_model.specs.declared.group.Group.{Group}
+use Rattle.br_model.specs.Control.Learning.{is_dynamic}
 use Rattle.br_model.specs.Forward.Admission.{is_up, is_forwarding, member}
 use Rattle.br_model.specs.Table.DomainPorts.{is_in_domain}
 use Rattle.br_model.specs.Table.Domains.{Domains, host, port_places}
@@ -104,15 +104,8 @@ trap_wanted t i =
 abbrev pub control_wanted : Table → Control
 control_wanted t = record { snooping = t.snoop; tree = t.stp; four = knows_querier t false; six = knows_querier t true }
 
--- whether an entry stays where it is
-abbrev pub is_pinned : Kind → Bool
-is_pinned Local = true
-is_pinned Static = true
-is_pinned Learned = false
-is_pinned Extern = false
-
 abbrev pub address_wanted : ℕ × Kind → AddressRow
-address_wanted entry = record { port = entry.0; kind = entry.1; pinned = is_pinned entry.1 }
+address_wanted entry = record { port = entry.0; kind = entry.1; pinned = not (is_dynamic entry.1) }
 
 -- how many traps there are
 abbrev pub trap_count : ℕ

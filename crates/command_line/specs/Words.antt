@@ -156,7 +156,7 @@ asked words = unless_fault (fault_of command words) (option_and_then asked_with 
 abbrev pub IsWithin : Asked → Type 0
 IsWithin Replay = ⊤
 IsWithin Check = ⊤
-IsWithin (Show _) = ⊤
+IsWithin (Show listing) = ⊤
 IsWithin Monitor = ⊤
 IsWithin Audit = ⊤
 IsWithin Follow = ⊤

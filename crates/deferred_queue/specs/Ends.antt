@@ -21,4 +21,4 @@ pub record Taking : Type 0 where
 -- the update is the next of what is known to come, if anything is known
 abbrev pub IsNext : List Update → Update → Type 0
 IsNext [] u = Unit {0}
-IsNext (x ∷ _) u = u ≡ x
+IsNext (x ∷ left) u = u ≡ x

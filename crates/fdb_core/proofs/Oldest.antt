@@ -7,7 +7,8 @@ use Rattle.std.proofs.lemmas.Bool.{le-leb, eqb-true, eq-eqb, and_from}
 use Rattle.lemmas.proofs.Tests.{by_test}
 use Rattle.open_addressing.specs.Least.{smaller, least}
 use Rattle.fdb_core.specs.declared.entries.Entry.{Entry}
-use Rattle.fdb_core.specs.Fdb.{is_learned, learned_moment, oldest, all_from}
+use Rattle.br_model.specs.Control.Learning.{is_learned}
+use Rattle.fdb_core.specs.Fdb.{learned_moment, oldest, all_from}
 use Rattle.fdb_core.specs.Places.{Place, was_learned, is_current, Tells, is_settled, first_moment}
 use Rattle.fdb_core.proofs.ByAddress.{Key}
 use Rattle.fdb_core.proofs.Lookups.{find_past, find_here}

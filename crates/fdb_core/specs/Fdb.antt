@@ -6,10 +6,9 @@ use Rattle.std.specs.declared.option.Option.{Option}
 use Rattle.std.specs.declared.option.Option.TheVariants.{None, Some}
 use Rattle.std.specs.Option.{option_map_or}
 use Rattle.open_addressing.specs.Least.{least}
-use Rattle.br_model.specs.Control.Learning.{Address, is_dynamic}
+use Rattle.br_model.specs.Control.Learning.{Address, is_dynamic, is_learned}
 use Rattle.br_model.specs.Data.Maps.{pair_cmp, put}
 use Rattle.br_model.specs.declared.change.Kind.{Kind}
-use Rattle.br_model.specs.declared.change.Kind.TheVariants.{Local, Static, Learned, Extern}
 use Rattle.fdb_core.specs.declared.entries.Entry.{Entry}
 
 -- the entries, ascending by VLAN and address, and how many there is room for
@@ -23,12 +22,6 @@ keys_where passes entries = map (λ e. e.0) (filter (λ e. passes e.1) entries)
 
 abbrev pub is_at_port : ℕ → Entry → Bool
 is_at_port port entry = entry.port == port
-
-abbrev pub is_learned : Kind → Bool
-is_learned Local = false
-is_learned Static = false
-is_learned Learned = true
-is_learned Extern = false
 
 -- learned, and not seen for the time `hold`
 abbrev pub is_expired : ℕ → ℕ → Entry → Bool

@@ -10,7 +10,7 @@ use Rattle.br_model.specs.Program.LiveRun.{accepts_changes, frames_at, from_fram
 use Rattle.br_model.specs.Program.Runs.{setup_of}
 use Rattle.br_model.specs.Table.Setup.{Setup}
 use Rattle.br_model.specs.Text.Scenario.{Scenario}
-use Rattle.br_model.specs.Theorems.LiveRuns.{IsLiveRun}
+use Rattle.br_model.specs.Program.LiveRules.{IsLiveRun}
 use Rattle.br_model.proofs.Program.LiveRuns.{is_live}
 use Rattle.br_model.proofs.Plane.Worlds.{worlds, run_worlds}
 use Rattle.std.specs.Cmp.{first_so, second_so}

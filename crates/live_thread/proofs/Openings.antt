@@ -2,7 +2,7 @@
 use Rattle.std.proofs.Common.{◌≡◌, Bool, true, false, if◌then◌else◌, List, [], ◌∷◌, ap, append_assoc, append-nil}
 use Rattle.br_model.specs.declared.steps.Step.{Step}
 use Rattle.br_model.specs.Program.LiveRun.{from_frame, is_frame, until_frame}
-use Rattle.br_model.specs.Theorems.LiveRuns.{Becomes, Empty, Kept}
+use Rattle.br_model.specs.Program.LiveRules.{Becomes, Empty, Kept}
 use Rattle.plane_record.specs.Pasts.{Past, after}
 use Rattle.live_thread.specs.Taking.{behind}
 

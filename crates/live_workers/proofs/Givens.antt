@@ -8,7 +8,7 @@ use Rattle.br_model.specs.declared.steps.Step.{Step}
 use Rattle.br_model.specs.declared.steps.Step.TheVariants.{Rx}
 use Rattle.br_model.specs.Program.LiveRun.{frames_at, from_frame, is_frame, is_frame_at, is_live_run, is_ordered, until_frame}
 use Rattle.br_model.specs.Text.Scenario.{Scenario}
-use Rattle.br_model.specs.Theorems.LiveRuns.{Becomes, Empty, Kept, Taken}
+use Rattle.br_model.specs.Program.LiveRules.{Becomes, Empty, Kept, Taken}
 use Rattle.br_model.proofs.Program.LiveRuns.{live_is}
 use Rattle.live_workers.specs.Results.{is_taken}
 

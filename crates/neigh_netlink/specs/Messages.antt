@@ -6,6 +6,7 @@ use Rattle.std.specs.Prelude.{ℕ, ◌+◌, ◌==◌, nat_lt, nat_le, Bool, true
 use Rattle.std.specs.Int.{w16, w32, to_le_bytes, bytes_high_first}
 use Rattle.br_model.specs.declared.change.Kind.{Kind}
 use Rattle.br_model.specs.declared.change.Kind.TheVariants.{Local, Static, Learned, Extern}
+use Rattle.br_model.specs.Control.Learning.{is_extern}
 use Rattle.br_model.specs.Data.Numbers.{is_multicast}
 use Rattle.br_model.specs.Table.Domains.{host, last_port}
 use Rattle.br_model.specs.Table.Limits.{most_changes}
@@ -18,12 +19,6 @@ is_local Local = true
 is_local Static = false
 is_local Learned = false
 is_local Extern = false
-
-abbrev pub is_extern : Kind → Bool
-is_extern Local = false
-is_extern Static = false
-is_extern Learned = false
-is_extern Extern = true
 
 -- of an entry and its kind: just the host's own addresses are local
 abbrev pub fits_port : Kind → ℕ → Bool

@@ -6,8 +6,8 @@ use Rattle.std.specs.List.{fold}
 use Rattle.std.specs.declared.option.Option.{Option}
 use Rattle.std.specs.declared.option.Option.TheVariants.{None, Some}
 use Rattle.std.specs.Option.{is_some}
+use Rattle.br_model.specs.contracts.change.KindPartialEq.TheImpl.{ghosts as derived}
 use Rattle.br_model.specs.declared.change.Kind.{Kind}
-use Rattle.br_model.specs.declared.change.Kind.TheVariants.{Local, Static, Learned, Extern}
 use Rattle.br_model.specs.Data.Maps.{pair_cmp, get, put, without}
 use Rattle.br_model.specs.Table.Limits.{most_addresses}
 use Rattle.neigh_netlink.specs.declared.neigh.Neigh.{Neigh}
@@ -40,22 +40,7 @@ table_of messages = fold after_message [] messages
 -- Which messages can't be taken.
 
 abbrev pub same_kind : Kind → Kind → Bool
-same_kind Local Local = true
-same_kind Local Static = false
-same_kind Local Learned = false
-same_kind Local Extern = false
-same_kind Static Local = false
-same_kind Static Static = true
-same_kind Static Learned = false
-same_kind Static Extern = false
-same_kind Learned Local = false
-same_kind Learned Static = false
-same_kind Learned Learned = true
-same_kind Learned Extern = false
-same_kind Extern Local = false
-same_kind Extern Static = false
-same_kind Extern Learned = false
-same_kind Extern Extern = true
+same_kind = derived.eq
 
 -- whether the entry that stands there has this port and kind
 abbrev pub is_of : ℕ → Kind → Option Entry → Bool

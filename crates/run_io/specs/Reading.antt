@@ -104,12 +104,12 @@ PieceCause NoMemory n new faults_before faults_now = (length new.held < n) × (n
 abbrev pub line_bytes : Result (Option Got) LineFault → List ℕ
 line_bytes (Ok None) = []
 line_bytes (Ok (Some got)) = got.bytes.now ++ line_end got.whole
-line_bytes (Err _) = []
+line_bytes (Err fault) = []
 
 -- the bytes that an answer of `take` hands out
 abbrev pub piece_bytes : Result Got LineFault → List ℕ
 piece_bytes (Ok got) = got.bytes.now
-piece_bytes (Err _) = []
+piece_bytes (Err fault) = []
 
 -- what a call of `next` and one of `take` do alike
 pub record Calls {T : Type 0} (old new : Reading) (before now : Option (List ℕ)) (handed : List ℕ) (result : Result T LineFault) : Type 0 where

@@ -16,7 +16,7 @@ use Rattle.br_model.specs.Program.Runs.{setup_of}
 use Rattle.br_model.specs.Program.SameSteps.{same_step}
 use Rattle.br_model.specs.Table.Setup.{Setup}
 use Rattle.br_model.specs.Text.Scenario.{Scenario}
-use Rattle.br_model.specs.Theorems.LiveRuns.{Becomes, Empty, Kept, Taken, IsLiveRun}
+use Rattle.br_model.specs.Program.LiveRules.{Becomes, Empty, Kept, Taken, IsLiveRun}
 use Rattle.br_model.proofs.Program.SameFrames.{frames_in, frames_same}
 use Rattle.br_model.proofs.Program.SameSteps.{step_decides, steps_decide}
 use Rattle.br_model.proofs.Plane.Worlds.{worlds, run_worlds, drains_later}

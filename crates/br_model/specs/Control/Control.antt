@@ -1,12 +1,11 @@
 -- What a bridge keeps beside its table: moments, the ageing time, what ends when, and the spanning tree.
 -- Source: the kernel's net/bridge (net_bridge_fdb_entry.updated, ageing_time), IEEE 802.1D-1998 section 7.9.2.
 use Rattle.std.specs.Prelude.{ℕ, ◌*◌, if◌then◌else◌, List, []}
-use Rattle.std.specs.Option.{is_some}
 use Rattle.std.specs.declared.option.Option.TheVariants.{None}
 use Rattle.br_model.specs.declared.change.Change.{Change}
 use Rattle.br_model.specs.Control.Ends.{Ends, no_ends, lasts, parts, routes, queries}
 use Rattle.br_model.specs.Data.Maps.{pair_cmp, put, without}
-use Rattle.br_model.specs.Table.Change.{Subject, Setting, Member, RouterAt, QuerierOf, Entry, subject}
+use Rattle.br_model.specs.Table.Change.{Timed, Untimed, TimedMember, TimedRouter, TimedQuerier, TimedEntry, subject}
 use Rattle.br_model.specs.Tree.Tree.{Tree, first_tree}
 
 -- in milliseconds
@@ -36,12 +35,12 @@ renewed c key = record c { updated = put pair_cmp c.updated key c.now }
 
 -- The moment of what goes is forgotten, that of an entry that is put is now, and a member that joins has no end but what its
 -- report says.
-abbrev pub follows : Control → Subject → Control
-follows c (Setting needs) = c
-follows c (Member member there) = ends_with c (if there then lasts c.ends member None else parts c.ends member)
-follows c (RouterAt port there) = ends_with c (routes there c.ends c.now port)
-follows c (QuerierOf six there) = ends_with c (queries there c.ends c.now six)
-follows c (Entry key put) = if is_some put then renewed c key else record c { updated = without pair_cmp c.updated key }
+abbrev pub follows : Control → Timed → Control
+follows c Untimed = c
+follows c (TimedMember member there) = ends_with c (if there then lasts c.ends member None else parts c.ends member)
+follows c (TimedRouter port there) = ends_with c (routes there c.ends c.now port)
+follows c (TimedQuerier six there) = ends_with c (queries there c.ends c.now six)
+follows c (TimedEntry key there) = if there then renewed c key else record c { updated = without pair_cmp c.updated key }
 
 abbrev pub keeps_up : Control → Change → Control
-keeps_up c d = follows c (subject d)
+keeps_up c d = follows c (subject d).timed

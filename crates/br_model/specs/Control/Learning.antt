@@ -56,6 +56,7 @@ is_dynamic Static = false
 is_dynamic Learned = true
 is_dynamic Extern = true
 
+-- whether software learned entries of this kind; only these expire
 abbrev pub is_learned : Kind → Bool
 is_learned Local = false
 is_learned Static = false

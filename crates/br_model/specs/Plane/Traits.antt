@@ -23,27 +23,14 @@ pub record Traits : Type 0 where
   -- In a run by workers: it may stand in the drain, the longest end of the steps that has none but these.
   pub drains : Bool
 
--- none of these
-abbrev pub plain : Traits
-plain = record {
-  frame = None;
-  moment = None;
-  post = None;
-  turn = None;
-  report = None;
-  publishes = false;
-  ordered = false;
-  drains = false;
-}
-
 abbrev pub traits : Step → Traits
-traits (Rx port bytes) = record plain { frame = Some (port, bytes) }
-traits (Cmd command) = record plain { ordered = true }
-traits (Now moment) = record plain { moment = Some moment; ordered = true }
-traits Serve = record plain { drains = true }
-traits Hold = plain
-traits (Post id point) = record plain { post = Some (id, point) }
-traits (Turn dom) = record plain { turn = Some dom; drains = true }
-traits (Report dom) = record plain { report = Some dom; drains = true }
-traits (Sweep dom) = record plain { ordered = true }
-traits Publish = record plain { publishes = true; drains = true }
+traits (Rx port bytes) = record { frame = Some (port, bytes); moment = None; post = None; turn = None; report = None; publishes = false; ordered = false; drains = false }
+traits (Cmd command) = record { frame = None; moment = None; post = None; turn = None; report = None; publishes = false; ordered = true; drains = false }
+traits (Now moment) = record { frame = None; moment = Some moment; post = None; turn = None; report = None; publishes = false; ordered = true; drains = false }
+traits Serve = record { frame = None; moment = None; post = None; turn = None; report = None; publishes = false; ordered = false; drains = true }
+traits Hold = record { frame = None; moment = None; post = None; turn = None; report = None; publishes = false; ordered = false; drains = false }
+traits (Post id point) = record { frame = None; moment = None; post = Some (id, point); turn = None; report = None; publishes = false; ordered = false; drains = false }
+traits (Turn dom) = record { frame = None; moment = None; post = None; turn = Some dom; report = None; publishes = false; ordered = false; drains = true }
+traits (Report dom) = record { frame = None; moment = None; post = None; turn = None; report = Some dom; publishes = false; ordered = false; drains = true }
+traits (Sweep dom) = record { frame = None; moment = None; post = None; turn = None; report = None; publishes = false; ordered = true; drains = false }
+traits Publish = record { frame = None; moment = None; post = None; turn = None; report = None; publishes = true; ordered = false; drains = true }

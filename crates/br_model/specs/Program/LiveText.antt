@@ -3,13 +3,13 @@
 use Rattle.std.specs.Prelude.{◌≡◌, ℕ, true, List, [], ◌∷◌, ◌++◌, codes, IfSome}
 use Rattle.std.specs.List.{flat_map, list_all}
 use Rattle.br_model.specs.declared.steps.Step.{Step}
-use Rattle.br_model.specs.Program.LiveRun.{is_live_run}
 use Rattle.br_model.specs.Program.Outcomes.{Call, Read, Wrote}
 use Rattle.br_model.specs.Program.Runs.{told_of}
 use Rattle.br_model.specs.Text.Head.{head_text}
 use Rattle.br_model.specs.Text.Roster.{Roster}
 use Rattle.br_model.specs.Text.Scenario.{Scenario, Ended, scenario}
 use Rattle.br_model.specs.Text.ScenarioText.{has_line, step_text}
+use Rattle.br_model.specs.Program.LiveRules.{IsLiveRun}
 
 -- a scenario of these steps, behind what was declared
 unfoldable pub steps_scenario : Roster → List Step → List ℕ
@@ -25,7 +25,7 @@ pub record AnswersLive (call : Call) : Type 0 where
   pub read : Read call input
   pub ends : (scenario input).ending ≡ Ended
   pub steps : List Step
-  pub live : is_live_run steps (scenario input) ≡ true
+  pub live : IsLiveRun steps (scenario input)
   -- each has a line, which names a chip that exists and numbers in range
   pub written : list_all (has_line (scenario input).roster.ports) steps ≡ true
   pub wrote : Wrote call (live_text (scenario input) steps)

@@ -1,8 +1,8 @@
--- Changes of the table: what each is of, and by that which are of address entries, what they ask for, which reach a chip later,
--- and the tickets under which they do.
+-- Changes of the table: what definitions ask of each beside what it does, a row a change, and the tickets under which deferred ones reach
+-- a chip.
 -- Source: the kernel's switchdev.rst (address entries are offloaded by deferred work) and net/bridge/br_switchdev.c
 -- (br_switchdev_mdb_notify offloads members of groups with SWITCHDEV_F_DEFER, as edition 2 does); the queue is this profile's.
-use Rattle.std.specs.Prelude.{ℕ, Bool, true, false, if◌then◌else◌, List, map}
+use Rattle.std.specs.Prelude.{ℕ, Bool, true, false, List, map}
 use Rattle.std.specs.List.{filter, enumerate_from}
 use Rattle.std.specs.Option.{is_some}
 use Rattle.std.specs.declared.option.Option.{Option}
@@ -17,79 +17,71 @@ use Rattle.br_model.specs.declared.domains.Edition.{Edition}
 use Rattle.br_model.specs.declared.domains.Edition.TheVariants.{One, Two}
 use Rattle.br_model.specs.Table.Groups.{Membership}
 
--- what a change is of
-pub data Subject : Type 0 where
-  -- a setting of a port, a VLAN or the bridge, with what it asks for
-  Setting : Asks → Subject
-  -- the member of a group, and whether it is there
-  Member : Membership → Bool → Subject
-  -- the router behind a port, and whether it is there
-  RouterAt : ℕ → Bool → Subject
-  -- the querier of an IP version, and whether it is there
-  QuerierOf : Bool → Bool → Subject
-  -- the address entry at a VLAN and address, with the port and the kind that are put there, none where the entry is deleted
-  Entry : ℕ × ℕ → Option (ℕ × Kind) → Subject
+-- What the control plane keeps with a part of the table, such as when it ends, and whether that part is there behind the change.
+pub data Timed : Type 0 where
+  Untimed : Timed
+  TimedMember : Membership → Bool → Timed
+  TimedRouter : ℕ → Bool → Timed
+  TimedQuerier : Bool → Bool → Timed
+  -- the entry at a VLAN and address
+  TimedEntry : ℕ × ℕ → Bool → Timed
 
--- Of the settings only that of a state asks for something: it is to be one of Linux's.
-abbrev pub subject : Change → Subject
-subject (PortUp port) = Setting Nothing
-subject (PortDown port) = Setting Nothing
-subject (SetFlags port flags) = Setting Nothing
-subject (SetState port state) = Setting (State state)
-subject (VlanAdd port vid untagged pvid) = Setting Nothing
-subject (VlanDel port vid) = Setting Nothing
-subject (GroupJoin port vid group) = Member (vid, group, port) true
-subject (GroupPart port vid group) = Member (vid, group, port) false
-subject (Router port on) = RouterAt port on
-subject (Querier six on) = QuerierOf six on
-subject (Snoop on) = Setting Nothing
-subject (Stp on) = Setting Nothing
-subject (AddrPut vid mac port kind) = Entry (vid, mac) (Some (port, kind))
-subject (AddrDel vid mac) = Entry (vid, mac) None
-
-abbrev pub entry_of : Subject → Option ((ℕ × ℕ) × Option (ℕ × Kind))
-entry_of (Setting needs) = None
-entry_of (Member member there) = None
-entry_of (RouterAt port there) = None
-entry_of (QuerierOf six there) = None
-entry_of (Entry key put) = Some (key, put)
-
--- The address entry that a change is of, by VLAN and address; and the port and the kind that it puts there, none where it deletes
--- the entry.
-abbrev pub address_part : Change → Option ((ℕ × ℕ) × Option (ℕ × Kind))
-address_part c = entry_of (subject c)
-
--- whether it is of an address entry
-abbrev pub is_of_address : Change → Bool
-is_of_address c = is_some (address_part c)
-
--- A pair of VLAN and group or an address that comes wants room.
-abbrev pub asked_by : Subject → Asks
-asked_by (Setting needs) = needs
-asked_by (Member member there) = if there then GroupRoom member.0 member.1 else Nothing
-asked_by (RouterAt port there) = Nothing
-asked_by (QuerierOf six there) = Nothing
-asked_by (Entry key put) = if is_some put then AddressRoom key.0 key.1 else Nothing
-
--- what a change asks for
-abbrev pub asks : Change → Asks
-asks c = asked_by (subject c)
+pub record Subject : Type 0 where
+  -- the address entry that it is of, by VLAN and address; and the port and the kind that it puts there, none where it deletes the entry
+  pub entry : Option ((ℕ × ℕ) × Option (ℕ × Kind))
+  -- what it asks for
+  pub needs : Asks
+  -- whether it reaches a chip through the queue; any other change does in the step that accepts it
+  pub later : Edition → Bool
+  pub timed : Timed
 
 -- whether the members of groups reach a chip through the queue
 abbrev pub groups_deferred : Edition → Bool
 groups_deferred One = false
 groups_deferred Two = true
 
-abbrev pub comes_later : Edition → Subject → Bool
-comes_later edition (Setting needs) = false
-comes_later edition (Member member there) = groups_deferred edition
-comes_later edition (RouterAt port there) = false
-comes_later edition (QuerierOf six there) = false
-comes_later edition (Entry key put) = true
+abbrev pub never : Edition → Bool
+never edition = false
 
--- A deferred change reaches a chip through the queue, any other one in the step that accepts it.
+abbrev pub always : Edition → Bool
+always edition = true
+
+-- A state is to be one of Linux's; a pair of VLAN and group or an address that comes wants room.
+abbrev pub subject : Change → Subject
+subject (PortUp port) = record { entry = None; needs = Nothing; later = never; timed = Untimed }
+subject (PortDown port) = record { entry = None; needs = Nothing; later = never; timed = Untimed }
+subject (SetFlags port flags) = record { entry = None; needs = Nothing; later = never; timed = Untimed }
+subject (SetState port state) = record { entry = None; needs = State state; later = never; timed = Untimed }
+subject (VlanAdd port vid untagged pvid) = record { entry = None; needs = Nothing; later = never; timed = Untimed }
+subject (VlanDel port vid) = record { entry = None; needs = Nothing; later = never; timed = Untimed }
+subject (GroupJoin port vid group) =
+    record { entry = None; needs = GroupRoom vid group; later = groups_deferred; timed = TimedMember (vid, group, port) true }
+subject (GroupPart port vid group) =
+    record { entry = None; needs = Nothing; later = groups_deferred; timed = TimedMember (vid, group, port) false }
+subject (Router port on) = record { entry = None; needs = Nothing; later = never; timed = TimedRouter port on }
+subject (Querier six on) = record { entry = None; needs = Nothing; later = never; timed = TimedQuerier six on }
+subject (Snoop on) = record { entry = None; needs = Nothing; later = never; timed = Untimed }
+subject (Stp on) = record { entry = None; needs = Nothing; later = never; timed = Untimed }
+subject (AddrPut vid mac port kind) =
+    record { entry = Some ((vid, mac), Some (port, kind)); needs = AddressRoom vid mac; later = always; timed = TimedEntry (vid, mac) true }
+subject (AddrDel vid mac) =
+    record { entry = Some ((vid, mac), None); needs = Nothing; later = always; timed = TimedEntry (vid, mac) false }
+
+-- the address entry that it is of
+abbrev pub address_part : Change → Option ((ℕ × ℕ) × Option (ℕ × Kind))
+address_part c = (subject c).entry
+
+-- whether it is of an address entry
+abbrev pub is_of_address : Change → Bool
+is_of_address c = is_some (address_part c)
+
+-- what it asks for
+abbrev pub asks : Change → Asks
+asks c = (subject c).needs
+
+-- whether it reaches a chip through the queue
 abbrev pub deferred : Edition → Change → Bool
-deferred edition c = comes_later edition (subject c)
+deferred edition c = (subject c).later edition
 
 -- the deferred changes in order, with tickets 0, 1, 2 and so on
 abbrev pub updates : Edition → List Change → List Update

@@ -111,5 +111,10 @@ message bytes head =
 
 -- Where the message is records, they are in these bytes, whole, from the place that it names on.
 abbrev pub RecordsStand : List ℕ → McastMsg → Type 0
+RecordsStand bytes Plain = Unit {0}
+RecordsStand bytes (Payload group) = Unit {0}
+RecordsStand bytes (Query six counted) = Unit {0}
+RecordsStand bytes (Report group) = Unit {0}
+RecordsStand bytes (Leave group) = Unit {0}
 RecordsStand bytes (Records six first count) = (first ≤ length bytes) × (records_fit six count (drop first bytes) ≡ true)
-RecordsStand bytes other = Unit {0}
+RecordsStand bytes Unrecognized = Unit {0}

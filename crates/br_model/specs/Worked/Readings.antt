@@ -10,7 +10,7 @@ use Rattle.br_model.specs.declared.frame.Act.{Act}
 use Rattle.br_model.specs.declared.frame.FrameFault.{FrameFault}
 use Rattle.br_model.specs.declared.frame.Head.{Head}
 use Rattle.br_model.specs.declared.frame.McastMsg.{McastMsg}
-use Rattle.br_model.specs.declared.frame.McastMsg.TheVariants.{Records}
+use Rattle.br_model.specs.declared.frame.McastMsg.TheVariants.{Plain, Payload, Query, Report, Leave, Records, Unrecognized}
 use Rattle.br_model.specs.Data.Digits.{bytes_from_hex}
 use Rattle.br_model.specs.Wire.Frames.{frame}
 use Rattle.br_model.specs.Wire.Messages.{message}
@@ -24,8 +24,13 @@ abbrev pub Reading : Type 0
 Reading = Option (McastMsg × List Act)
 
 abbrev pub acts_in : List ℕ → McastMsg → List Act
+acts_in bytes Plain = []
+acts_in bytes (Payload group) = []
+acts_in bytes (Query six counted) = []
+acts_in bytes (Report group) = []
+acts_in bytes (Leave group) = []
 acts_in bytes (Records six first count) = acts bytes six first count
-acts_in bytes other = []
+acts_in bytes Unrecognized = []
 
 abbrev pub reading_at : List ℕ → Result Head FrameFault → Reading
 reading_at bytes (Err why) = None

@@ -1,5 +1,5 @@
--- A live run in the words of its rules, for any first part. `is_live_run` looks at the shortest one alone; a law says that it is as good
--- as any.
+-- A run by workers in the words of its rules, for any first part. `is_live_run` looks at the shortest one alone; a law says that it is as
+-- good as any.
 -- Source: this profile.
 use Rattle.std.specs.Prelude.{◌≡◌, ℕ, true, false, List, [], ◌∷◌, ◌++◌}
 use Rattle.std.specs.List.{filter, list_all}
