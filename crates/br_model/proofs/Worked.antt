@@ -6,6 +6,7 @@ pub mod Computing
 pub mod Domains
 pub mod Endings
 pub mod Groups
+pub mod Laws
 pub mod LiveRuns
 pub mod Messages
 pub mod Rows

@@ -16,3 +16,4 @@ pub mod Commands
 pub mod Checks
 pub mod LiveRuns
 pub mod Frames
+pub mod Laws

@@ -1,5 +1,5 @@
 //! Laws about what a chip does with a frame. A law is a function that does nothing: its contract says it.
-ghost use Rattle.std.specs.Prelude.{◌≡◌, ℕ, true};
+ghost use Rattle.std.specs.Prelude.{◌≡◌, ℕ, true, map};
 ghost use Rattle.br_model.specs.declared.frame.Class.{Class};
 ghost use Rattle.br_model.specs.declared.frame.Head.{Head};
 ghost use Rattle.br_model.specs.declared.frame.McastMsg.{McastMsg};
@@ -7,6 +7,7 @@ ghost use Rattle.br_model.specs.Forward.Class.{class};
 ghost use Rattle.br_model.specs.Table.Domains.{Domains};
 ghost use Rattle.br_model.specs.Table.Table.{Table};
 ghost use Rattle.br_model.specs.Theorems.Wanted.{IsWanted, ArePorts, NeedsSoftware, comes_to_software};
+ghost use Rattle.br_model.specs.Worked.Laws.{chip_ports, classes_known, head_to, known_table};
 
 /// The class of a frame is what it is for, and no other class is.
 pub fn class_is_wanted()
@@ -22,4 +23,10 @@ pub fn comes_where_needed()
         → comes_to_software (class domains t port head msg) ≡ true → NeedsSoftware domains t port head msg }
     ensures comes { (domains : Domains) (t : Table) (port : ℕ) (head : Head) (msg : McastMsg) → NeedsSoftware domains t port head msg
         → comes_to_software (class domains t port head msg) ≡ true }
+{}
+
+/// Frames of each class, by their destinations and messages, in a table whose ports have numbers of ports.
+pub fn classes_by_destination()
+    ensures classes { map (λ x. class chip_ports.domains known_table 1 (head_to x.0) x.1) classes_known ≡ map (λ x. x.2) classes_known }
+    ensures ports { ArePorts known_table }
 {}

@@ -1,5 +1,5 @@
 //! Laws about the moments of addresses. A law is a function that does nothing: its contract says it.
-ghost use Rattle.std.specs.Prelude.{◌≡◌, ℕ, List, ◌++◌, is_some};
+ghost use Rattle.std.specs.Prelude.{◌≡◌, ℕ, List, [], ◌∷◌, ◌++◌, is_some};
 ghost use Rattle.std.specs.declared.result.Result.TheVariants.{Ok};
 ghost use Rattle.br_model.specs.declared.change.Change.{Change};
 ghost use Rattle.br_model.specs.declared.steps.Event.{Event};
@@ -11,6 +11,8 @@ ghost use Rattle.br_model.specs.Plane.Runs.{run};
 ghost use Rattle.br_model.specs.Table.Setup.{Setup};
 ghost use Rattle.br_model.specs.Table.Table.{Table, start, apply, table};
 ghost use Rattle.br_model.specs.Theorems.StampsTied.{AreStamped};
+ghost use Rattle.br_model.specs.Worked.Hold.{soft_ports, station_b};
+ghost use Rattle.br_model.specs.Worked.Laws.{moment_steps, station_a, station_c};
 
 /// Each address entry has its moment beside it, and nothing else has one: at first, after each change, after every reaction, and so
 /// after every run. So no entry that may expire is without the moment from which its time is counted.
@@ -22,4 +24,9 @@ pub fn stamps_are_tied()
     ensures run { (setup : Setup) (steps : List Step) → AreStamped (table (run setup steps).0.history) (run setup steps).0.control }
     ensures each { (setup : Setup) (steps : List Step) (key : ℕ × ℕ)
         → is_some (get pair_cmp (run setup steps).0.control.updated key) ≡ is_some (get pair_cmp (table (run setup steps).0.history).addr key) }
+{}
+
+/// A learned, a static and an extern entry, each with its moment; an entry that went has none.
+pub fn moments_of_a_run()
+    ensures { (run soft_ports moment_steps).0.control.updated ≡ ((1, station_a), 3000) ∷ ((1, station_b), 1000) ∷ ((1, station_c), 2000) ∷ [] }
 {}

@@ -1,6 +1,6 @@
 -- The class of a frame is what it is for.
-use Rattle.std.proofs.Common.{◌≡◌, ℕ, Bool, true, false, not, cond, ◌&&◌, ◌||◌, List, [], ◌∷◌, length, Option, None, Some, refl, sym, ap, subst, ◌∙◌, arith, inl, inr}
-use Rattle.std.proofs.lemmas.Bool.{and_from, and_parts, or_cases, or_left, not-true, eqb-true, ne_eqb, leb-true, ltb-true, lt-ltb, le-leb, or_parts}
+use Rattle.std.proofs.Common.{◌≡◌, ℕ, ◌<◌, ◌≤◌, Bool, true, false, not, cond, ◌&&◌, ◌||◌, List, [], ◌∷◌, length, Option, None, Some, refl, sym, ap, subst, ◌∙◌, arith, inl, inr}
+use Rattle.std.proofs.lemmas.Bool.{and_from, and_parts, or_cases, or_left, not-true, eqb-true, eq-eqb, ne_eqb, leb-true, ltb-true, lt-ltb, le-leb, or_parts}
 use Rattle.std.proofs.lemmas.List.Elements.{All-nil, All-cons, All-contains, Contains-append_right}
 use Rattle.std.specs.Prelude.{◌==◌, nat_lt, nat_le}
 use Rattle.std.specs.List.{All, Contains, list_any}
@@ -10,16 +10,17 @@ use Rattle.br_model.specs.declared.frame.Class.{Class}
 use Rattle.br_model.specs.declared.frame.Class.TheVariants.{Drop, Trap, Copy, Forward}
 use Rattle.br_model.specs.declared.frame.Head.{Head}
 use Rattle.br_model.specs.declared.frame.McastMsg.{McastMsg}
+use Rattle.br_model.specs.declared.frame.McastMsg.TheVariants.{Plain, Payload, Query, Report, Leave, Records, Unrecognized}
 use Rattle.br_model.specs.Data.Maps.{pair_cmp, get}
 use Rattle.br_model.specs.Data.Numbers.{is_multicast}
-use Rattle.br_model.specs.Forward.Admission.{admit}
+use Rattle.br_model.specs.Forward.Admission.{admit, has_valid_source, is_up}
 use Rattle.br_model.specs.Forward.Class.{class, class_by, is_snooped, is_trapped, is_trapped_in, reaches_host, crosses}
 use Rattle.br_model.specs.Forward.Eligible.{may}
 use Rattle.br_model.specs.Forward.Leave.{ports_out}
-use Rattle.br_model.specs.Forward.Targets.{pause_address, is_for_the_host, port_of, to_tree}
+use Rattle.br_model.specs.Forward.Targets.{bridge_group_address, pause_address, is_for_the_host, port_of, to_tree}
 use Rattle.br_model.specs.Table.Domains.{Domains, foreign, host}
 use Rattle.br_model.specs.Table.Table.{Table}
-use Rattle.br_model.specs.Theorems.Wanted.{tree, snooping, reserved, IsForSoftware, read, station, IsWanted, LeavesElsewhere, StaysInDomain}
+use Rattle.br_model.specs.Theorems.Wanted.{IsOfSnooping, query, report, leave, records, unrecognized, IsRead, tree, snooping, reserved, IsForSoftware, read, station, IsWanted, LeavesElsewhere, StaysInDomain}
 
 or-second : (x y : Bool) → y ≡ true → (x || y) ≡ true
 or-second true y e = refl
@@ -66,6 +67,42 @@ module _ (p : ℕ → Bool) where
 pub none-in : (q : ℕ) → Contains [] q → ⊥
 none-in q there = All-contains (λ x. ⊥) [] q (All-nil (λ x. ⊥)) there
 
+-- What software reads, by words and by tests
+
+snooped-said : (msg : McastMsg) → is_snooped msg ≡ true → IsOfSnooping msg
+snooped-said Plain e = absurd (cc (e))
+snooped-said (Payload group) e = absurd (cc (e))
+snooped-said (Query six counted) e = query six counted
+snooped-said (Report group) e = report group
+snooped-said (Leave group) e = leave group
+snooped-said (Records six first count) e = records six first count
+snooped-said Unrecognized e = unrecognized
+
+said-snooped : (msg : McastMsg) → IsOfSnooping msg → is_snooped msg ≡ true
+said-snooped _ (query six counted) = refl
+said-snooped _ (report group) = refl
+said-snooped _ (leave group) = refl
+said-snooped _ (records six first count) = refl
+said-snooped _ unrecognized = refl
+
+second-on : (n : ℕ) → pause_address < n → 0x0180C2000002 ≤ n
+second-on n h = omega (arith, h)
+
+behind-first : (n : ℕ) → 0x0180C2000002 ≤ n → pause_address < n
+behind-first n h = omega (arith, h)
+
+tree-said : (t : Table) (port : ℕ) (head : Head) (msg : McastMsg) → to_tree t port head ≡ true → IsRead t port head msg
+tree-said t port head msg e =
+    let first = and_parts (head.dst == bridge_group_address) _ e in
+    let on = and_parts t.stp _ first.1 in
+    let up = and_parts (is_up t port) (has_valid_source head) on.1 in
+    tree (eqb-true head.dst bridge_group_address first.0) on.0 up.0 up.1
+
+said-tree : (t : Table) (port : ℕ) (head : Head) → head.dst ≡ bridge_group_address → t.stp ≡ true → is_up t port ≡ true → has_valid_source head ≡ true → to_tree t port head ≡ true
+said-tree t port head to on up valid =
+    and_from (head.dst == bridge_group_address) _ (eq-eqb head.dst bridge_group_address to)
+    (and_from t.stp _ on (and_from (is_up t port) (has_valid_source head) up valid))
+
 -- Software alone may decide a frame just where it is trapped.
 
 module _ (domains : Domains) (t : Table) (port : ℕ) (head : Head) (msg : McastMsg) where
@@ -80,12 +117,12 @@ module _ (domains : Domains) (t : Table) (port : ℕ) (head : Head) (msg : Mcast
   trapped-in None admits e = absurd (cc (e))
   trapped-in (Some vid) admits e =
       elim (or_cases (t.snoop && is_snooped msg) (reaches_host t port vid head || crosses domains t port vid head) e) [
-        | inl snooped ↦ let both = and_parts t.snoop (is_snooped msg) snooped in read (snooping vid admits both.0 both.1)
+        | inl snooped ↦ let both = and_parts t.snoop (is_snooped msg) snooped in read (snooping vid admits both.0 (snooped-said msg both.1))
         | inr other ↦ elim (or_cases (reaches_host t port vid head) (crosses domains t port vid head) other) [
           | inl hosts ↦
               let both = and_parts (is_for_the_host head.dst) (may t port host vid) hosts in
               let range = and_parts (nat_lt pause_address head.dst) (nat_le head.dst 0x0180C200000F) both.0 in
-              read (reserved vid admits (ltb-true pause_address head.dst range.0) (leb-true head.dst 0x0180C200000F range.1) both.1)
+              read (reserved vid admits (second-on head.dst (ltb-true pause_address head.dst range.0)) (leb-true head.dst 0x0180C200000F range.1) both.1)
           | inr cross ↦
               let both = and_parts (not (is_multicast head.dst)) (option_map_or (λ e. foreign domains port (port_of e) && may t port (port_of e) vid) (get pair_cmp t.addr (vid, head.dst)) false) cross in
               by-station vid admits (not-true (is_multicast head.dst) both.0) (get pair_cmp t.addr (vid, head.dst)) refl both.1
@@ -95,7 +132,7 @@ module _ (domains : Domains) (t : Table) (port : ℕ) (head : Head) (msg : Mcast
   pub trapped-asks : is_trapped domains t port head msg ≡ true → IsForSoftware domains t port head msg
   trapped-asks e =
       elim (or_cases (to_tree t port head) (is_trapped_in domains t port (admit t port head) head msg) e) [
-        | inl is ↦ read (tree is)
+        | inl is ↦ read (tree-said t port head msg is)
         | inr within ↦ trapped-in (admit t port head) refl within
       ]
 
@@ -105,15 +142,15 @@ module _ (domains : Domains) (t : Table) (port : ℕ) (head : Head) (msg : Mcast
       (ap (λ (o : Option ℕ). is_trapped_in domains t port o head msg) admits ∙ e)
 
   pub asks-trapped : IsForSoftware domains t port head msg → is_trapped domains t port head msg ≡ true
-  asks-trapped (read (tree is)) = or_left (to_tree t port head) (is_trapped_in domains t port (admit t port head) head msg) is
+  asks-trapped (read (tree to on up valid)) = or_left (to_tree t port head) (is_trapped_in domains t port (admit t port head) head msg) (said-tree t port head to on up valid)
   asks-trapped (read (snooping vid admits on wants)) =
-      in-vlan vid admits (or_left (t.snoop && is_snooped msg) (reaches_host t port vid head || crosses domains t port vid head) (and_from t.snoop (is_snooped msg) on wants))
+      in-vlan vid admits (or_left (t.snoop && is_snooped msg) (reaches_host t port vid head || crosses domains t port vid head) (and_from t.snoop (is_snooped msg) on (said-snooped msg wants)))
   asks-trapped (read (reserved vid admits above below takes)) =
       in-vlan vid admits
       (or-second (t.snoop && is_snooped msg) (reaches_host t port vid head || crosses domains t port vid head)
       (or_left (reaches_host t port vid head) (crosses domains t port vid head)
       (and_from (is_for_the_host head.dst) (may t port host vid)
-      (and_from (nat_lt pause_address head.dst) (nat_le head.dst 0x0180C200000F) (lt-ltb pause_address head.dst above) (le-leb head.dst 0x0180C200000F below)) takes)))
+      (and_from (nat_lt pause_address head.dst) (nat_le head.dst 0x0180C200000F) (lt-ltb pause_address head.dst (behind-first head.dst above)) (le-leb head.dst 0x0180C200000F below)) takes)))
   asks-trapped (station vid e admits one is elsewhere takes) =
       in-vlan vid admits
       (or-second (t.snoop && is_snooped msg) (reaches_host t port vid head || crosses domains t port vid head)

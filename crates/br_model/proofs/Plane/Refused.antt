@@ -32,7 +32,7 @@ use Rattle.br_model.specs.Plane.World.{World, Waiting, Holding, Stepped, refused
 use Rattle.br_model.specs.Table.Domains.{domain_of}
 use Rattle.br_model.specs.Table.Table.{table}
 use Rattle.br_model.specs.Theorems.FrameLines.{soft_lines}
-use Rattle.br_model.specs.Theorems.Refused.{IsRefused, counted, served, posted}
+use Rattle.br_model.specs.Theorems.Refused.{IsRefused, sends_frame, counted, served, posted}
 use Rattle.br_model.specs.Wire.Frames.{frame}
 use Rattle.br_model.proofs.Plane.Waiting.{waits-either, goes_on-either}
 
@@ -124,35 +124,35 @@ module _ (w : World) where
   abbrev Shown : Step → Stepped → Type 0
   Shown step y = All (Says (Tells step y)) y.1
 
-  refused-shown : (step : Step) (why : Refusal) → Shown step (refused (counts-step w) why)
-  refused-shown step why = refused-say (Tells step (refused (counts-step w) why)) (counts-step w) why (refl, counted refl)
+  refused-shown : (step : Step) (why : Refusal) → (why ≡ HistoryFull → sends_frame step ≡ false) → Shown step (refused (counts-step w) why)
+  refused-shown step why other = refused-say (Tells step (refused (counts-step w) why)) (counts-step w) why (refl, counted other refl)
 
-  answered-shown : (step : Step) (after : World) (answer : Result Reaction Refusal) → Shown step (answered (counts-step w) after answer)
-  answered-shown step after (Err why) = refused-shown step why
-  answered-shown step after (Ok r) = answered-say (Tells step (answered (counts-step w) after (Ok r))) (counts-step w) after (Ok r) (λ why e. absurd (cc (e)))
+  answered-shown : (step : Step) (after : World) (answer : Result Reaction Refusal) → sends_frame step ≡ false → Shown step (answered (counts-step w) after answer)
+  answered-shown step after (Err why) other = refused-shown step why (λ full. other)
+  answered-shown step after (Ok r) other = answered-say (Tells step (answered (counts-step w) after (Ok r))) (counts-step w) after (Ok r) (λ why e. absurd (cc (e)))
 
   turns_to-shown : (dom : ℕ) (c : Chip) (o : Option Change) → Shown (Turn dom) (turns_to (counts-step w) c o)
-  turns_to-shown dom c None = refused-shown (Turn dom) NothingPending
+  turns_to-shown dom c None = refused-shown (Turn dom) NothingPending (λ full. refl)
   turns_to-shown dom c (Some d) = done-say (Tells (Turn dom) (turns_to (counts-step w) c (Some d))) (w.steps + 1) 0
 
   turns-shown : (dom : ℕ) (o : Option Chip) → Shown (Turn dom) (turns (counts-step w) o)
-  turns-shown dom None = refused-shown (Turn dom) NothingPending
+  turns-shown dom None = refused-shown (Turn dom) NothingPending (λ full. refl)
   turns-shown dom (Some c) = turns_to-shown dom c (next_of w c)
 
   tells-shown : (dom : ℕ) (c : Chip) (rs : List Triple) → Shown (Report dom) (tells (counts-step w) c rs)
-  tells-shown dom c [] = refused-shown (Report dom) NothingReported
-  tells-shown dom c (x ∷ later) = answered-shown (Report dom) (with_chip (counts-step w) (record c { reports = later })) (reacts w (events.Told x.0 x.1 x.2))
+  tells-shown dom c [] = refused-shown (Report dom) NothingReported (λ full. refl)
+  tells-shown dom c (x ∷ later) = answered-shown (Report dom) (with_chip (counts-step w) (record c { reports = later })) (reacts w (events.Told x.0 x.1 x.2)) refl
 
   reports-shown : (dom : ℕ) (o : Option Chip) → Shown (Report dom) (reports (counts-step w) o)
-  reports-shown dom None = refused-shown (Report dom) NothingReported
+  reports-shown dom None = refused-shown (Report dom) NothingReported (λ full. refl)
   reports-shown dom (Some c) = tells-shown dom c c.reports
 
   sweeps-shown : (dom : ℕ) (o : Option Chip) → Shown (Sweep dom) (sweeps (counts-step w) o)
   sweeps-shown dom None = done-say (Tells (Sweep dom) (sweeps (counts-step w) None)) (w.steps + 1) 0
-  sweeps-shown dom (Some c) = answered-shown (Sweep dom) (with_chip (counts-step w) (record c { hits = [] })) (reacts w (swept w c))
+  sweeps-shown dom (Some c) = answered-shown (Sweep dom) (with_chip (counts-step w) (record c { hits = [] })) (reacts w (swept w c)) refl
 
   serves-shown : (fs : List Waiting) → w.waiting ≡ fs → Shown Serve (serves (counts-step w) fs)
-  serves-shown [] is = refused-shown Serve NothingWaiting
+  serves-shown [] is = refused-shown Serve NothingWaiting (λ full. absurd (cc (full)))
   serves-shown (f ∷ later) is =
       let v = record w { steps = w.steps + 1; waiting = later } in
       posts-say (Tells Serve (posts v f w.published)) v f w.published
@@ -160,7 +160,7 @@ module _ (w : World) where
       (refl, served f later refl full is (ap (λ (r : Result Reaction Refusal). after_lines (soft_lines w f w.published) (answered v v r)) e)))
 
   holds-shown : (fs : List Waiting) → Shown Hold (holds (counts-step w) fs)
-  holds-shown [] = refused-shown Hold NothingWaiting
+  holds-shown [] = refused-shown Hold NothingWaiting (λ full. refl)
   holds-shown (f ∷ later) = one-says (Tells Hold (holds (counts-step w) (f ∷ later))) (lines.Held f.id w.published) (λ n why e. absurd (cc (e)))
 
   -- the frame that is held with the id is let go, and sent by this point
@@ -183,17 +183,17 @@ module _ (w : World) where
   posts_held-shown id h (Some point) is =
       elim (is_point w h point) as (λ b. Shown (Post id (Some point)) (cond {A = Stepped} b (posts (lets_go (counts-step w) h.waiting.id) h.waiting point) (refused (counts-step w) NoSuchPoint))) [
         | true ↦ let-go id (Some point) h point is refl
-        | false ↦ refused-shown (Post id (Some point)) NoSuchPoint
+        | false ↦ refused-shown (Post id (Some point)) NoSuchPoint (λ full. absurd (cc (full)))
       ]
 
   posts_at-shown : (id : ℕ) (o : Option Holding) (named : Option ℕ) → held_with w id ≡ o → Shown (Post id named) (posts_at (counts-step w) o named)
-  posts_at-shown id None named is = refused-shown (Post id named) NothingToPost
+  posts_at-shown id None named is = refused-shown (Post id named) NothingToPost (λ full. absurd (cc (full)))
   posts_at-shown id (Some h) named is = posts_held-shown id h named is
 
   step-shown : (step : Step) → Shown step (world_step w step)
   step-shown (Rx port bytes) = enters-say (Tells (Rx port bytes) (world_step w (Rx port bytes))) (record w { steps = w.steps + 1; next = w.next + 1 }) w.next port bytes (frame bytes)
-  step-shown (Cmd c) = answered-shown (Cmd c) (counts-step w) (reacts w (events.Cmd c))
-  step-shown (Now moment) = answered-shown (Now moment) (counts-step w) (reacts w (events.Moment moment))
+  step-shown (Cmd c) = answered-shown (Cmd c) (counts-step w) (reacts w (events.Cmd c)) refl
+  step-shown (Now moment) = answered-shown (Now moment) (counts-step w) (reacts w (events.Moment moment)) refl
   step-shown Serve = serves-shown w.waiting refl
   step-shown Hold = holds-shown w.waiting
   step-shown (Post id named) = posts_at-shown id (held_with w id) named refl

@@ -9,22 +9,31 @@ use Rattle.br_model.specs.declared.frame.Class.{Class}
 use Rattle.br_model.specs.declared.frame.Class.TheVariants.{Drop, Trap, Copy, Forward}
 use Rattle.br_model.specs.declared.frame.Head.{Head}
 use Rattle.br_model.specs.declared.frame.McastMsg.{McastMsg}
+use Rattle.br_model.specs.declared.frame.McastMsg.TheVariants.{Query, Report, Leave, Records, Unrecognized}
+use Rattle.br_model.specs.declared.group.Group.{Group}
 use Rattle.br_model.specs.Data.Maps.{pair_cmp, get}
 use Rattle.br_model.specs.Data.Numbers.{is_multicast}
-use Rattle.br_model.specs.Forward.Admission.{admit}
-use Rattle.br_model.specs.Forward.Class.{is_snooped}
+use Rattle.br_model.specs.Forward.Admission.{admit, has_valid_source, is_up, member}
 use Rattle.br_model.specs.Forward.Eligible.{may}
 use Rattle.br_model.specs.Forward.Leave.{ports_out}
-use Rattle.br_model.specs.Forward.Targets.{pause_address, port_of, to_tree}
+use Rattle.br_model.specs.Forward.Targets.{port_of}
 use Rattle.br_model.specs.Table.Domains.{Domains, foreign, host, port_places}
 use Rattle.br_model.specs.Table.Table.{Table}
 
--- Software reads the frame: it is for the spanning tree; or the port admits it, and it is a message of snooping, which is on, or goes
--- to a reserved address of the host, which may take it.
+-- a message of snooping: a query or an answer to one, and what is broken and may be either
+pub data IsOfSnooping : McastMsg → Type 0 where
+  query : (six counted : Bool) → IsOfSnooping (Query six counted)
+  report : (group : Group) → IsOfSnooping (Report group)
+  leave : (group : Group) → IsOfSnooping (Leave group)
+  records : (six : Bool) (first count : ℕ) → IsOfSnooping (Records six first count)
+  unrecognized : IsOfSnooping Unrecognized
+
+-- Software reads the frame: it goes to 01-80-C2-00-00-00, the spanning tree is on, the port is up and the source is one station; or
+-- the port admits it, and it is a message of snooping, which is on, or goes to one of 01-80-C2-00-00-02 to 0F in a VLAN of the host.
 pub data IsRead (t : Table) (port : ℕ) (head : Head) (msg : McastMsg) : Type 0 where
-  tree : to_tree t port head ≡ true → IsRead t port head msg
-  snooping : (vid : ℕ) → admit t port head ≡ Some vid → t.snoop ≡ true → is_snooped msg ≡ true → IsRead t port head msg
-  reserved : (vid : ℕ) → admit t port head ≡ Some vid → pause_address < head.dst → head.dst ≤ 0x0180C200000F → may t port host vid ≡ true
+  tree : head.dst ≡ 0x0180C2000000 → t.stp ≡ true → is_up t port ≡ true → has_valid_source head ≡ true → IsRead t port head msg
+  snooping : (vid : ℕ) → admit t port head ≡ Some vid → t.snoop ≡ true → IsOfSnooping msg → IsRead t port head msg
+  reserved : (vid : ℕ) → admit t port head ≡ Some vid → 0x0180C2000002 ≤ head.dst → head.dst ≤ 0x0180C200000F → member t host vid ≡ true
       → IsRead t port head msg
 
 -- Software alone may decide the frame: it reads it, or the port admits it to one station, which is known behind a port of another
