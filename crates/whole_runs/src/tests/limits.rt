@@ -198,3 +198,63 @@ fn full_history(rt: HostRuntime) {
         "ok 1048574 1\nok 1048575 0\nrefused 1048576 8\nsoft 1 at 0\nrefused 1048578 8\nok 1048579 0\nend 1048579 1048576 0 0\n";
     ends_in(&rt, alloc, input.as_bytes(), (Status::Ok, told));
 }
+
+/// Three addresses that the chip learned and no frame hit since; one that software learned, and one that the chip reports.
+const BEFORE_THE_LIMIT: &str = "scenario 1
+port 1 c1 chip 1
+port 2 s2 soft
+cmd port up c1
+cmd port up s2
+cmd fdb add 02:00:00:00:00:0e dev c1 vlan 1 extern
+cmd fdb add 02:00:00:00:00:0f dev c1 vlan 1 extern
+cmd fdb add 02:00:00:00:00:10 dev c1 vlan 1 extern
+turn 1
+turn 1
+turn 1
+sweep 1
+rx 2 02000000000e02000000000b88b50102
+serve
+rx 1 02000000000e02000000000a88b50102
+cmd link s2 flood off
+";
+
+/// Of the three addresses one is hit, then another one.
+const AT_THE_LIMIT: &str = "rx 1 02000000000f02000000000e88b50102
+sweep 1
+rx 1 02000000000e02000000000f88b50102
+sweep 1
+report 1
+report 1
+now 300000
+now 299999
+end
+";
+
+const TOLD_AT_THE_LIMIT: &str = "ok 1048577 1
+chip 3 at 1048575 3 drop
+refused 1048579 8
+chip 4 at 1048575 3 drop
+ok 1048581 1
+refused 1048582 8
+refused 1048583 8
+refused 1048584 8
+ok 1048585 0
+end 1048585 1048576 2 0
+";
+
+/// A sweep that would make two changes where there is room for one leaves the hits: after one more, it makes one. With no room a
+/// report stays, and so does the last moment.
+#[test]
+fn full_history_at_a_chip(rt: HostRuntime) {
+    let alloc = rt.alloc();
+    let mut input = text_from(&rt, alloc, BEFORE_THE_LIMIT);
+    let on_and_off = "cmd link s2 flood on\ncmd link s2 flood off\n";
+    push_times(&rt, &mut input, on_and_off, 524_282);
+    push(&rt, &mut input, AT_THE_LIMIT);
+    ends_in(
+        &rt,
+        alloc,
+        input.as_bytes(),
+        (Status::Ok, TOLD_AT_THE_LIMIT),
+    );
+}
