@@ -4,4 +4,5 @@ pub mod Differences
 pub mod LiveRuns
 pub mod MadeRead
 pub mod SameFrames
+pub mod SameRuns
 pub mod SameSteps

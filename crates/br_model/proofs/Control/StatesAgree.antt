@@ -1,7 +1,8 @@
 -- The table's states follow the spanning tree's on every course.
 use Rattle.std.proofs.Common.{◌≡◌, ℕ, ◌≤◌, ◌==◌, nat_lt, Bool, Option, None, Some, true, false, cond, not, ◌&&◌, ◌||◌, List, [], ◌∷◌, ◌++◌, map, refl, sym, ap, ◌∙◌, subst, arith}
 use Rattle.std.proofs.lemmas.Bool.{and_from, and_parts, eqb-true, le-leb}
-use Rattle.std.proofs.lemmas.Bool.Decides.{nat_tests}
+use Rattle.lemmas.proofs.Orders.{eq_by_cmp-true}
+use Rattle.lemmas.proofs.Tests.{and-false}
 use Rattle.std.proofs.lemmas.Cmp.{nat_cmp_total}
 use Rattle.std.proofs.lemmas.List.{append-nil}
 use Rattle.std.proofs.lemmas.List.Folds.{list_all-append}
@@ -66,9 +67,6 @@ use Rattle.br_model.proofs.Trees.Kept.{at_first, ports-kept, known-kept, known-a
 
 -- Lists of states that are set
 
-same-port : (p n : ℕ) → eq_by_cmp nat_cmp p n ≡ true → n ≡ p
-same-port p n h = grind (arith, nat_tests)
-
 makes-fitting : (r : Course) (c : Change) → fits r.table c ≡ true → makes r c ≡ record r { table = apply r.table c; control = keeps_up r.control c; changes = r.changes ++ c ∷ [] }
 makes-fitting r c fit = ap (λ b. cond b (record r { table = apply r.table c; control = keeps_up r.control c; changes = r.changes ++ c ∷ [] }) r) fit
 
@@ -95,7 +93,7 @@ are-set f low (p ∷ ps) r =
   where
     here : (q : ℕ) (b : Bool) → eq_by_cmp nat_cmp q p ≡ b → (later : Bool) (o : Option ℕ) → cond later (Some (f q)) (cond b (Some (f p)) o) ≡ cond (b || later) (Some (f q)) o
     here q true is true o = refl
-    here q true is false o = ap (λ n. Some (f n)) (same-port q p is)
+    here q true is false o = ap (λ n. Some (f n)) (sym (eq_by_cmp-true q p is))
     here q false is true o = refl
     here q false is false o = refl
 
@@ -106,16 +104,12 @@ any-passes g q (p ∷ ps) = by (g p) refl (eq_by_cmp nat_cmp q p) refl (any-pass
   where
     by : (b : Bool) → g p ≡ b → (e : Bool) → eq_by_cmp nat_cmp q p ≡ e → list_any (eq_by_cmp nat_cmp q) (filter g ps) ≡ (list_any (eq_by_cmp nat_cmp q) ps && g q)
         → list_any (eq_by_cmp nat_cmp q) (cond b (p ∷ filter g ps) (filter g ps)) ≡ ((e || list_any (eq_by_cmp nat_cmp q) ps) && g q)
-    by true passes true is rest = ap (λ e. e || list_any (eq_by_cmp nat_cmp q) (filter g ps)) is ∙ sym (ap g (sym (same-port q p is)) ∙ passes)
+    by true passes true is rest = ap (λ e. e || list_any (eq_by_cmp nat_cmp q) (filter g ps)) is ∙ sym (ap g (eq_by_cmp-true q p is) ∙ passes)
     by true passes false is rest = ap (λ e. e || list_any (eq_by_cmp nat_cmp q) (filter g ps)) is ∙ rest
-    by false passes true is rest = rest ∙ ap (λ b. list_any (eq_by_cmp nat_cmp q) ps && b) fails ∙ none (list_any (eq_by_cmp nat_cmp q) ps) ∙ sym fails
+    by false passes true is rest = rest ∙ ap (λ b. list_any (eq_by_cmp nat_cmp q) ps && b) fails ∙ and-false (list_any (eq_by_cmp nat_cmp q) ps) ∙ sym fails
       where
         fails : g q ≡ false
-        fails = ap g (sym (same-port q p is)) ∙ passes
-
-        none : (b : Bool) → (b && false) ≡ false
-        none true = refl
-        none false = refl
+        fails = ap g (eq_by_cmp-true q p is) ∙ passes
     by false passes false is rest = rest
 
 -- Before the spanning tree is told an event: the table has the ports that the event leaves, in the states of the tree.
@@ -278,7 +272,7 @@ module _ (r : Course) (port : ℕ) (a : Agree r) where
             ∙ (elim (eq_by_cmp nat_cmp q port) as
             (λ b. eq_by_cmp nat_cmp q port ≡ b
             → cond b (Some 0) (get nat_cmp r.table.state q) ≡ option_map (λ (x : TreePort). state_at tree q) (cond b (Some new) (get nat_cmp tree.ports q))) [
-              | true ↦ λ is. ap (λ n. Some n) (sym (none-disabled (get nat_cmp tree.ports q) (ap (λ p. is_some (get nat_cmp tree.ports p)) (sym (same-port q port is)) ∙ none)))
+              | true ↦ λ is. ap (λ n. Some n) (sym (none-disabled (get nat_cmp tree.ports q) (ap (λ p. is_some (get nat_cmp tree.ports p)) (eq_by_cmp-true q port is) ∙ none)))
               | false ↦ λ is. a.states q ∙ own-state (get nat_cmp tree.ports q)
             ]) refl
             ∙ ap (option_map (λ (x : TreePort). state_at tree q)) (sym (find-put nat_cmp nat_cmp_total q port new tree.ports));
@@ -303,7 +297,7 @@ goes-agree : (port : ℕ) (s : Course) → Agree s → Agree (tells_tree (Some (
 goes-agree port s a =
     let tree = s.control.tree in
     let other : ℕ → Bool = (λ k. not (eq_by_cmp nat_cmp port k)) in
-    let ties : (q x : ℕ) → nat_cmp q x ≡ Equal → other x ≡ other q = (λ q x e. ap other (same-port q x (ap is_eq e))) in
+    let ties : (q x : ℕ) → nat_cmp q x ≡ Equal → other x ≡ other q = (λ q x e. ap other (sym (eq_by_cmp-true q x (ap is_eq e)))) in
     told-agrees (makes_all s (changes.PortDown port ∷ [])) (tree_events.Down port)
     (record {
       up = ap (λ (l : List ℕ). parted nat_cmp l port) a.up ∙ sym (keys-without nat_cmp tree.ports port);

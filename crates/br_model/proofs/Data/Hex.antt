@@ -10,7 +10,8 @@ use Rattle.std.proofs.lemmas.Str.{IsUtf8-from_ascii}
 use Rattle.std.proofs.lemmas.Str.Ascii.{IsAscii-cons, IsAscii-nil}
 use Rattle.hex.specs.declared.error.FromHexError.{FromHexError}
 use Rattle.hex.specs.declared.error.FromHexError.TheVariants.{OddLength}
-use Rattle.hex.specs.Hex.{IsBytes, ◌>>=◌, decode_pairs, decode_of, digit_or_error, encode_lower, encode_with, hex_digit_value, lower_digits}
+use Rattle.hex.specs.Hex.{IsBytes, ◌>>=◌, decode_pairs, decode_of, decode_sized, digit_or_error, encode_lower, encode_with, hex_digit_value, lower_digits}
+use Rattle.hex.proofs.HexLemmas.{decode_sized-twice}
 use Rattle.br_model.specs.Data.Digits.{byte_of, bytes_from_hex, hex_digit, hex_of, in_front, nibble}
 
 -- ---- writing
@@ -105,3 +106,7 @@ at-parity false text e = pairs-given 0 text
 -- what `decode` answers, but for memory
 pub decode-given : (text : List ℕ) → given (decode_of text) ≡ bytes_from_hex text
 decode-given text = at-parity (length text % 2 == 1) text refl
+
+-- what `decode_to_slice` and `from_hex` answer of so many bytes
+pub sized-given : (n : ℕ) (text : List ℕ) → length text ≡ 2 * n → given (decode_sized text n) ≡ bytes_from_hex text
+sized-given n text h = ap given (decode_sized-twice text n h) ∙ decode-given text

@@ -1,11 +1,11 @@
 -- Lists: parts of them, ascending ones, and distinct ones.
-use Rattle.std.proofs.Common.{◌≡◌, ℕ, ◌<◌, ◌≤◌, Bool, true, false, cond, List, [], ◌∷◌, ◌++◌, map, length, Option, None, Some, refl, sym, ap, ◌∙◌, arith, subst}
+use Rattle.std.proofs.Common.{◌≡◌, ℕ, zero, suc, ◌<◌, ◌≤◌, Bool, true, false, cond, List, [], ◌∷◌, ◌++◌, map, drop, length, Option, None, Some, refl, sym, ap, ◌∙◌, arith, subst}
 use Rattle.std.specs.Prelude.{◌||◌}
-use Rattle.std.specs.List.{AllByRecursion, All, IsDistinct, filter, find, last_or, slice_get}
+use Rattle.std.specs.List.{AllByRecursion, All, IsDistinct, filter, find, last_or, list_all, slice_get}
 use Rattle.std.specs.List.Sorted.{IsStrictlySortedBy}
 use Rattle.std.specs.Ordering.{nat_cmp, eq_by_cmp, match_ordering, ordering_reverse}
 use Rattle.std.specs.BTreeSet.{insert_key}
-use Rattle.std.specs.Cmp.{IsTotalOrder, nat_cmp_is, unsigned_tied}
+use Rattle.std.specs.Cmp.{IsTotalOrder, nat_cmp_is, second_so, unsigned_tied}
 use Rattle.std.specs.declared.cmp.Ordering.{Ordering}
 use Rattle.std.specs.declared.cmp.Ordering.TheVariants.{Less, Equal, Greater}
 use Rattle.std.proofs.lemmas.Bool.{eqb-true, eq-eqb, or_left, or_right}
@@ -13,6 +13,12 @@ use Rattle.std.proofs.lemmas.List.Elements.{All-from_recursion, recursion_from_A
 use Rattle.std.proofs.lemmas.Option.{same_Some}
 use Rattle.lemmas.proofs.Orders.{lt_from_nat_cmp}
 use Rattle.br_model.specs.Data.Maps.{has}
+
+-- what is left of a list passes as well
+pub list_all-drop : {X : Type 0} (p : X → Bool) (n : ℕ) (xs : List X) → list_all p xs ≡ true → list_all p (drop n xs) ≡ true
+list_all-drop p zero xs h = h
+list_all-drop p (suc n) [] h = refl
+list_all-drop p (suc n) (x ∷ xs) h = list_all-drop p n xs (second_so (p x) (list_all p xs) h)
 
 -- A list with some elements left out.
 

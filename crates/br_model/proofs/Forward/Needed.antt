@@ -3,6 +3,7 @@ use Rattle.std.proofs.Common.{◌≡◌, ℕ, zero, suc, ◌+◌, ◌<◌, ◌�
 use Rattle.std.proofs.lemmas.Bool.{and_from, and_parts, cases_Bool, eqb-true}
 use Rattle.std.proofs.lemmas.Bool.Decides.{nat_tests}
 use Rattle.std.proofs.lemmas.List.Elements.{All-contains}
+use Rattle.lemmas.proofs.Orders.{eq_by_cmp-true}
 use Rattle.std.specs.Prelude.{◌==◌}
 use Rattle.std.specs.List.{Contains, filter, list_any, range_with_len}
 use Rattle.std.specs.Ordering.{nat_cmp, eq_by_cmp}
@@ -48,11 +49,8 @@ module _ (p : ℕ → Bool) (q : ℕ) (passes : p q ≡ true) where
 up-below : (t : Table) (q : ℕ) → ArePorts t → is_up t q ≡ true → q < port_places
 up-below t q ports is =
     let found = any-there (eq_by_cmp nat_cmp q) t.up is in
-    let same : found.0 ≡ q = same-port q found.0 found.2 in
+    let same : found.0 ≡ q = sym (eq_by_cmp-true q found.0 found.2) in
     subst (λ n. n < port_places) same (All-contains (λ n. n < port_places) t.up found.0 ports found.1)
-  where
-    same-port : (p n : ℕ) → eq_by_cmp nat_cmp p n ≡ true → n ≡ p
-    same-port p n h = grind (arith, nat_tests)
 
 may-below : (t : Table) (p q vid : ℕ) → ArePorts t → may t p q vid ≡ true → q < port_places
 may-below t p q vid ports takes =

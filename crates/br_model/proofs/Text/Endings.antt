@@ -39,6 +39,12 @@ closes_by Going s line h = absurd (cc)
 closes_by Ended s line h = refl
 closes_by (Bad n why) s line h = refl
 
+-- a line that isn't whole ends what goes on
+pub closes_within : (d : Ending) (s : Scenario) → d ≡ Going → (closes_at d s []).ending ≡ Bad (s.lines + 1) Unended
+closes_within Going s e = refl
+closes_within Ended s e = absurd (cc)
+closes_within (Bad n why) s e = absurd (cc)
+
 pub closes_ended : (s : Scenario) (line : List ℕ) → has_ended s.ending ≡ true → closes s line ≡ s
 closes_ended s line e = closes_by s.ending s line e
 

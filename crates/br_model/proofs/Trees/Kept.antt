@@ -11,7 +11,7 @@ use Rattle.std.proofs.lemmas.Bool.{and_parts, cond_both, leb-true, le-leb}
 use Rattle.std.proofs.lemmas.Bool.Decides.{nat_tests}
 use Rattle.std.proofs.lemmas.List.Elements.{All-nil, All-cons, All-head, All-tail, All-map, All-weaker, All-filter, filter_passes}
 use Rattle.std.proofs.lemmas.Map.Views.{All-insert_key}
-use Rattle.lemmas.proofs.Orders.{eq_by_cmp-itself}
+use Rattle.lemmas.proofs.Orders.{eq_by_cmp-itself, eq_by_cmp-true}
 use Rattle.br_model.specs.declared.bpdu.BpduMsg.{BpduMsg}
 use Rattle.br_model.specs.declared.bpdu.BpduMsg.TheVariants.{Config, Tcn}
 use Rattle.br_model.specs.declared.tree.ConfigMsg.{ConfigMsg}
@@ -97,9 +97,6 @@ message-last x = by x.last
     by None = refl
     by (Some s) = refl
 
-tied : (p n : ℕ) → eq_by_cmp nat_cmp p n ≡ true → n ≡ p
-tied p n h = grind (arith, nat_tests)
-
 numbers-each : (f : ℕ × TreePort → TreePort) (es : List (ℕ × TreePort)) → numbers (each f es) ≡ numbers es
 numbers-each f [] = refl
 numbers-each f (e ∷ es) = ap (λ ns. e.0 ∷ ns) (numbers-each f es)
@@ -112,7 +109,7 @@ get-each f p (e ∷ es) =
   where
     by : (b : Bool) → eq_by_cmp nat_cmp p e.0 ≡ b
         → cond b (Some (f e)) (option_map (λ x. f (p, x)) (get nat_cmp es p)) ≡ option_map (λ x. f (p, x)) (cond b (Some e.1) (get nat_cmp es p))
-    by true same = ap (λ n. Some (f (n, e.1))) (tied p e.0 same)
+    by true same = ap (λ n. Some (f (n, e.1))) (sym (eq_by_cmp-true p e.0 same))
     by false other = refl
 
 sent-each : (f : ℕ × TreePort → TreePort) → ((e : ℕ × TreePort) → IsSome e.1.last → IsSome (f e).last)

@@ -1,22 +1,18 @@
 -- Worked endings, computed by the definitions.
-use Rattle.std.proofs.Common.{◌≡◌, Bool, true, false, true≢false, length, take, refl, sym, ◌∙◌, ap, arith}
+use Rattle.std.proofs.Common.{◌≡◌, false, true≢false, length, take, refl, sym, ◌∙◌, ap, arith}
 use Rattle.br_model.specs.Program.Outcomes.{EndsWithin, scenario_lines}
 use Rattle.br_model.specs.Program.Runs.{body_parts}
-use Rattle.br_model.specs.Text.Scenario.{Ending, Going, Ended, Bad, opened, reads, scenario}
+use Rattle.br_model.specs.Text.Scenario.{Ending, Going, Ended, opened, reads, scenario}
 use Rattle.br_model.specs.Worked.Endings.{parts_of_first_frame, first_frame_parts, ended_text, unfed_text}
+use Rattle.br_model.proofs.Text.Endings.{has_ended}
 use Rattle.br_model.proofs.Worked.Computing.{computing}
 
 pub parts : parts_of_first_frame ≡ first_frame_parts
 unfolding computing body_parts
 parts = refl
 
-abbrev is_going : Ending → Bool
-is_going Going = true
-is_going Ended = false
-is_going (Bad n why) = false
-
 over : (e : Ending) → e ≡ Going → e ≡ Ended → ⊥
-over e g d = true≢false (sym (ap is_going g) ∙ ap is_going d)
+over e g d = true≢false (sym (ap has_ended d) ∙ ap has_ended g)
 
 ended : (scenario ended_text).ending ≡ Ended
 unfolding computing
