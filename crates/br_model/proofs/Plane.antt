@@ -15,6 +15,7 @@ pub mod Refused
 pub mod Reports
 pub mod Running
 pub mod Shares
+pub mod StepEnds
 pub mod Stays
 pub mod Still
 pub mod Waiting

@@ -1,5 +1,5 @@
 -- Each step keeps what holds of the world.
-use Rattle.std.proofs.Common.{◌≡◌, ℕ, ◌+◌, ◌<◌, ◌≤◌, true, false, not, ◌&&◌, cond, List, [], ◌∷◌, ◌++◌, map, length, Option, None, Some, refl, sym, ap, ◌∙◌, arith, subst, append_assoc, length-append}
+use Rattle.std.proofs.Common.{◌≡◌, ℕ, ◌+◌, ◌<◌, ◌≤◌, true, false, not, ◌&&◌, cond, Bool, List, [], ◌∷◌, ◌++◌, map, length, Option, None, Some, refl, sym, ap, ◌∙◌, arith, subst, append_assoc, length-append}
 use Rattle.std.proofs.lemmas.Bool.{eqb-true, eqb-false, eq-eqb, ne_eqb, ltb-true, and_parts, or_parts, or_from, not-false}
 use Rattle.std.proofs.lemmas.Cmp.{nat_eq_equiv}
 use Rattle.std.proofs.lemmas.List.Elements.{All-nil, All-push, All-same, All-filter, All-weaker, All-from_recursion, recursion_from_All}
@@ -20,16 +20,12 @@ use Rattle.br_model.specs.declared.change.Change.TheVariants.{AddrPut}
 use Rattle.br_model.specs.declared.domains.Edition.{Edition}
 use Rattle.br_model.specs.declared.frame.Class.{Class}
 use Rattle.br_model.specs.declared.frame.Class.TheVariants.{Drop, Trap, Copy, Forward}
-use Rattle.br_model.specs.declared.frame.FrameFault.{FrameFault}
 use Rattle.br_model.specs.declared.frame.Head.{Head}
 use Rattle.br_model.specs.declared.steps.Event.{Event}
 use Rattle.br_model.specs.declared.steps.Event.TheVariants as events
 use Rattle.br_model.specs.declared.steps.Refusal.{Refusal}
-use Rattle.br_model.specs.declared.steps.Refusal.TheVariants.{NoSuchPoint, NothingPending, NothingReported}
-use Rattle.br_model.specs.declared.transcript.Line.TheVariants.{Overrun}
-use Rattle.br_model.specs.Plane.Chip.{Chip, put_chip, same_triple, offered, offers, hit, hit_by, hits_entry, notes, report, hit_of, first_chip, applies}
+use Rattle.br_model.specs.Plane.Chip.{Chip, same_triple, offered, offers, hit, hit_by, hits_entry, notes, report, hit_of, first_chip, applies}
 use Rattle.br_model.specs.Table.Cut.{deferred_of}
-use Rattle.br_model.specs.Table.DomainPorts.{is_in_domain}
 use Rattle.br_model.specs.Table.Domains.{Domains, domain_of, chip_domains, has_chip}
 use Rattle.br_model.specs.Wire.Frames.{frame}
 use Rattle.br_model.specs.Control.Learning.{Address, Triple}
@@ -39,21 +35,22 @@ use Rattle.br_model.specs.Control.Reaction.{Reaction}
 use Rattle.br_model.specs.Table.Setup.{Setup}
 use Rattle.br_model.specs.Forward.Shares.{mark_of}
 use Rattle.br_model.specs.Table.Table.{Table}
-use Rattle.br_model.specs.Plane.ChipSteps.{turns_to, turns, tells, reports, swept, sweeps}
-use Rattle.br_model.specs.Plane.Entering.{waits, goes_on, enters_as, class_of, enters_by, chip_of}
+use Rattle.br_model.specs.Plane.ChipSteps.{reports, swept}
+use Rattle.br_model.specs.Plane.Entering.{class_of}
+use Rattle.br_model.specs.Theorems.FrameLines.{entering}
+use Rattle.br_model.specs.declared.transcript.Line.{Line}
 use Rattle.br_model.specs.Theorems.Invariants.{frames_of, has_own_mark, IsFrame, FramesStand, ReportsStand, IsWorld, ChipStands}
-use Rattle.br_model.specs.Plane.Serving.{posts, serves, holds, held_with, lets_go, is_point, posts_held, posts_at}
-use Rattle.br_model.specs.Plane.Steps.{publishes, does, world_step}
+use Rattle.br_model.specs.Plane.Serving.{holds}
+use Rattle.br_model.specs.Plane.Steps.{publishes, world_step}
 use Rattle.br_model.specs.declared.steps.Step.{Step}
-use Rattle.br_model.specs.declared.steps.Step.TheVariants.{Rx, Cmd, Now, Serve, Hold, Post, Turn, Report, Sweep, Publish}
-use Rattle.br_model.specs.Plane.Traits.{traits}
-use Rattle.br_model.specs.Plane.World.{World, Waiting, Holding, first_world, chip_at, next_of, table_of_chip, Stepped, accepts, answered, done, reacts, refused, with_chip}
+use Rattle.br_model.specs.Plane.World.{World, Waiting, Holding, first_world, chip_at, next_of, table_of_chip, Stepped, accepts, answered, reacts, with_chip}
 use Rattle.br_model.proofs.Plane.Applying.{deferred_count-append}
 use Rattle.br_model.proofs.Data.PairKeys.{pair_total}
 use Rattle.br_model.proofs.Plane.Chips.{CountsStay, chip-each, chip-own, chip_of-at, counts-same, doms, has-chip, put-all, put-counts, put-doms}
 use Rattle.br_model.proofs.Plane.History.{Accepts, react-accepts}
 use Rattle.br_model.proofs.Data.Lists.{Part, all-part, map-part, distinct-part, part-middle, part-filter, ascend-insert, ascend-push, last-push, first-push, has-push, last-has}
-use Rattle.br_model.proofs.Plane.Waiting.{goes_on-either}
+use Rattle.br_model.proofs.Plane.StepEnds.{Answers, by_command, by_moment, by_report, by_sweep, Ends, does-ends, ends_answered, ends_applied, ends_entered, ends_held, ends_idle, ends_published}
+use Rattle.br_model.proofs.Plane.StepEnds.{ends_refused, ends_sent, ends_unread, Enters, by_chip, by_software, Entry, Joins, finds_room, overruns, passes_by, Leaves, by_post, by_serve}
 
 doms-first : (ds : List ℕ) → doms (map first_chip ds) ≡ ds
 doms-first [] = refl
@@ -234,23 +231,6 @@ frames-hold {domains} {counts} {held} {f} {later} {next} floor k point =
 
 -- A frame enters.
 
-waits-world : (w : World) (f : Waiting) → IsWorld w → IsFrame w.setup.domains w.next f → All (λ g. g.id < f.id) (frames_of w.held w.waiting) → IsWorld (waits w f).0
-waits-world w f k is fresh =
-    (elim (nat_lt (length w.waiting + length w.held) most_waiting) as (λ b. nat_lt (length w.waiting + length w.held) most_waiting ≡ b
-    → IsWorld (cond {A = Stepped} b (record w { waiting = w.waiting ++ f ∷ [] }, []) (w, Overrun f.id ∷ [])).0) [
-      | true ↦ λ e. record {
-        history = k.history;
-        counts = k.counts;
-        frames = frames-push k.frames f is fresh (ltb-true _ _ e);
-        doms = k.doms;
-        chips = k.chips;
-      }
-      | false ↦ λ e. k
-    ]) refl
-
-goes_on-world : (c : Class) (w : World) (f : Waiting) → IsWorld w → IsFrame w.setup.domains w.next f → All (λ g. g.id < f.id) (frames_of w.held w.waiting) → IsWorld (goes_on c w f).0
-goes_on-world c w f k is fresh = goes_on-either (λ s. IsWorld s.0) c w f k (waits-world w f k is fresh)
-
 class-mark : (class : Class) (domains : Domains) (f : Waiting) (dom : ℕ) → domain_of domains f.port ≡ Some dom → has_chip domains dom ≡ true
     → has_own_mark domains (record f { mark = mark_of class domains f.port }) ≡ true
 class-mark Drop domains f dom on there = refl
@@ -260,76 +240,74 @@ class-mark Copy domains f dom on there =
     ∙ (λ i. there i && eq-eqb dom dom refl i)
 class-mark Forward domains f dom on there = refl
 
-enters_by-world : (w : World) (f : Waiting) (o : Option Chip) → chip_of w (domain_of w.setup.domains f.port) ≡ o → f.mark ≡ None → f.id < w.next → frame f.bytes ≡ Ok f.head
-    → IsWorld w → All (λ g. g.id < f.id) (frames_of w.held w.waiting) → IsWorld (enters_by w o f).0
-enters_by-world w f None on unmarked less e k fresh =
-    waits-world w f k (record { id = less; head = e; mark = ap (λ m. option_map_or (λ mark. has_chip w.setup.domains mark && is_in_domain w.setup.domains mark f.port) m true) unmarked }) fresh
-enters_by-world w f (Some c) on unmarked less e k fresh =
-    let at = chip_of-at w (domain_of w.setup.domains f.port) c on in
-    let d = notes (table_of_chip w c) f.port f.head c in
-    let stands = kept-stands w.setup.domains.edition w.history c d (notes-keeps (table_of_chip w c) f.port f.head c) (chip-stands w at.0 c k at.2) in
-    goes_on-world (class_of w c f) (with_chip w d) (record f { mark = mark_of (class_of w c f) w.setup.domains f.port })
-    (chip-world w d stands k)
-    (record { id = less; head = e; mark = class-mark (class_of w c f) w.setup.domains f at.0 at.1 (has-chip w.setup.domains w.chips at.0 c k.doms at.2) })
-    fresh
+module _ (w : World) (port : ℕ) (bytes : List ℕ) (head : Head) where
+  pub enters-id : {chips : List Chip} {f : Waiting} {first : List Line} {b : Bool} → Enters w port bytes head chips f first b → f.id ≡ w.next
+  enters-id (by_software on) = refl
+  enters-id (by_chip c on) = refl
 
-enters-world : (w : World) (id port : ℕ) (bytes : List ℕ) (r : Result Head FrameFault) → frame bytes ≡ r → IsWorld w → id < w.next → All (λ g. g.id < id) (frames_of w.held w.waiting)
-    → IsWorld (enters_as w id port bytes r).0
-enters-world w id port bytes (Err why) e k less fresh = k
-enters-world w id port bytes (Ok head) e k less fresh =
-    let f : Waiting = record { id = id; port = port; bytes = bytes; head = head; mark = None } in
-    enters_by-world w f (chip_of w (domain_of w.setup.domains port)) refl refl less e k fresh
+  enters-chips : {chips : List Chip} {f : Waiting} {first : List Line} {b : Bool} → Enters w port bytes head chips f first b → IsWorld w → IsWorld (record w { chips = chips })
+  enters-chips (by_software on) k = k
+  enters-chips (by_chip c on) k =
+      let at = chip_of-at w (domain_of w.setup.domains port) c on in
+      let d = notes (table_of_chip w c) port head c in
+      chip-world w d (kept-stands w.setup.domains.edition w.history c d (notes-keeps (table_of_chip w c) port head c) (chip-stands w at.0 c k at.2)) k
+
+  pub enters-counts : {chips : List Chip} {f : Waiting} {first : List Line} {b : Bool} → Enters w port bytes head chips f first b → CountsStay w.chips chips
+  enters-counts (by_software on) = counts-same w.chips
+  enters-counts (by_chip c on) =
+      let at = chip_of-at w (domain_of w.setup.domains port) c on in
+      let keep = notes-keeps (table_of_chip w c) port head c in
+      put-counts w.chips c (notes (table_of_chip w c) port head c) (chip-own w.chips at.0 c at.2) keep.dom keep.count
+
+  enters-frame : {chips : List Chip} {f : Waiting} {first : List Line} {b : Bool} → Enters w port bytes head chips f first b → frame bytes ≡ Ok head → IsWorld w → IsFrame w.setup.domains (w.next + 1) f
+  enters-frame (by_software on) is k = record { id = omega arith; head = is; mark = refl }
+  enters-frame (by_chip c on) is k =
+      let at = chip_of-at w (domain_of w.setup.domains port) c on in
+      let f = entering w port bytes head in
+      record { id = omega arith; head = is; mark = class-mark (class_of w c f) w.setup.domains f at.0 at.1 (has-chip w.setup.domains w.chips at.0 c k.doms at.2) }
+
+joins-frames : {domains : Domains} {counts : List ℕ} {next : ℕ} (held : List Holding) (waiting : List Waiting) (f : Waiting) {b : Bool} {after : List Waiting} {last : List Line}
+    → Joins held waiting f b after last → FramesStand domains counts held waiting next → IsFrame domains next f → All (λ g. g.id < f.id) (frames_of held waiting)
+    → FramesStand domains counts held after next
+joins-frames held waiting f passes_by k is fresh = k
+joins-frames held waiting f (finds_room room) k is fresh = frames-push k f is fresh (ltb-true _ _ room)
+joins-frames held waiting f (overruns full) k is fresh = k
+
+numbered-world : (w : World) → IsWorld w → IsWorld (record w { next = w.next + 1 })
+numbered-world w k = record { history = k.history; counts = k.counts; frames = frames-next k.frames; doms = k.doms; chips = k.chips }
+
+entry-world : (w : World) (port : ℕ) (bytes : List ℕ) (n : Entry w port bytes) → IsWorld w → IsWorld (record w { next = w.next + 1; chips = n.chips; waiting = n.waiting })
+entry-world w port bytes n k =
+    let x = numbered-world (record w { chips = n.chips }) (enters-chips w port bytes n.head n.enters k) in
+    let fresh = All-weaker (IsFrame w.setup.domains w.next) (λ (g : Waiting). g.id < n.entered.id)
+    (λ g is. omega (arith, is.id, enters-id w port bytes n.head n.enters)) (frames_of w.held w.waiting) k.frames.frames in
+    record { history = x.history; counts = x.counts; frames = joins-frames w.held w.waiting n.entered n.joins x.frames (enters-frame w port bytes n.head n.enters n.is k) fresh; doms = x.doms; chips = x.chips }
 
 -- A frame is sent, or held.
 
-posts-world : (w : World) (f : Waiting) (point : ℕ) → IsWorld w → IsWorld (posts w f point).0
-posts-world w f point k = answered-world w w (events.Sight f.port f.bytes f.head) k k refl
-
-serves-world : (w : World) (fs : List Waiting) → w.waiting ≡ fs → IsWorld w → IsWorld (serves w fs).0
-serves-world w [] e k = k
-serves-world w (f ∷ later) e k = posts-world (record w { waiting = later }) f w.published (record {
+leaves-world : (w : World) {step : Step} {f : Waiting} {floor : Option ℕ} {held : List Holding} {waiting : List Waiting} {point : ℕ}
+    → Leaves w step f floor held waiting point → IsWorld w → IsWorld (record w { held = held; waiting = waiting })
+leaves-world w (by_serve f later is) k = record {
   history = k.history;
   counts = k.counts;
   frames =
-      let frames = subst (λ l. FramesStand w.setup.domains w.counts w.held l w.next) e k.frames in
+      let frames = subst (λ l. FramesStand w.setup.domains w.counts w.held l w.next) is k.frames in
       frames-part frames w.held later (part-middle (map (λ (h : Holding). h.waiting) w.held) f later) frames.floors (omega arith);
   doms = k.doms;
   chips = k.chips;
-})
-
-holds-world : (w : World) (fs : List Waiting) → w.waiting ≡ fs → IsWorld w → IsWorld (holds w fs).0
-holds-world w [] e k = k
-holds-world w (f ∷ later) e k = record {
-  history = k.history;
-  counts = k.counts;
-  frames = frames-hold w.published (subst (λ l. FramesStand w.setup.domains w.counts w.held l w.next) e k.frames) (last-has w.published w.counts k.counts.last);
-  doms = k.doms;
-  chips = k.chips;
 }
-
-lets_go-world : (w : World) (id : ℕ) → IsWorld w → IsWorld (lets_go w id)
-lets_go-world w id k = record {
-  history = k.history;
-  counts = k.counts;
-  frames =
-      frames-part k.frames (filter (λ h. not (h.waiting.id == id)) w.held) w.waiting (part-filter (λ (h : Holding). h.waiting) (λ h. not (h.waiting.id == id)) w.held w.waiting)
-      (All-filter (λ (h : Holding). not (h.waiting.id == id)) (λ (h : Holding). has nat_cmp w.counts h.floor ≡ true) w.held k.frames.floors)
-      (omega (arith, length-filter (λ (h : Holding). not (h.waiting.id == id)) w.held, count_by-le-length (λ (h : Holding). not (h.waiting.id == id)) w.held));
-  doms = k.doms;
-  chips = k.chips;
-}
-
-posts_held-world : (w : World) (h : Holding) (point : Option ℕ) → IsWorld w → IsWorld (posts_held w h point).0
-posts_held-world w h None k = posts-world (lets_go w h.waiting.id) h.waiting h.floor (lets_go-world w h.waiting.id k)
-posts_held-world w h (Some point) k =
-    elim (is_point w h point) as (λ b. IsWorld (cond {A = Stepped} b (posts (lets_go w h.waiting.id) h.waiting point) (refused w NoSuchPoint)).0) [
-      | true ↦ posts-world (lets_go w h.waiting.id) h.waiting point (lets_go-world w h.waiting.id k)
-      | false ↦ k
-    ]
-
-posts_at-world : (w : World) (o : Option Holding) (point : Option ℕ) → IsWorld w → IsWorld (posts_at w o point).0
-posts_at-world w None point k = k
-posts_at-world w (Some h) point k = posts_held-world w h point k
+leaves-world w (by_post i named h point is names decided) k =
+    let id = h.waiting.id in
+    record {
+      history = k.history;
+      counts = k.counts;
+      frames =
+          frames-part k.frames (filter (λ h. not (h.waiting.id == id)) w.held) w.waiting (part-filter (λ (h : Holding). h.waiting) (λ h. not (h.waiting.id == id)) w.held w.waiting)
+          (All-filter (λ (h : Holding). not (h.waiting.id == id)) (λ (h : Holding). has nat_cmp w.counts h.floor ≡ true) w.held k.frames.floors)
+          (omega (arith, length-filter (λ (h : Holding). not (h.waiting.id == id)) w.held, count_by-le-length (λ (h : Holding). not (h.waiting.id == id)) w.held));
+      doms = k.doms;
+      chips = k.chips;
+    }
 
 -- A chip takes the place of that of its domain: it has applied a change, was told of, or was swept.
 
@@ -347,78 +325,24 @@ fewer-reports : (x : Triple) (later : List Triple) → ReportsStand (x ∷ later
 unfolding IsDistinct
 fewer-reports x later k = record { ids = k.ids.1; few = omega (arith, k.few) }
 
-told-world : (w : World) (dom : ℕ) (c : Chip) (x : Triple) (later : List Triple) → chip_at w dom ≡ Some c → c.reports ≡ x ∷ later → IsWorld w
-    → IsWorld (with_chip w (record c { reports = later }))
-told-world w dom c x later at e k =
-    let stands = chip-stands w dom c k at in
-    chip-world w (record c { reports = later }) (record { applied = stands.applied; reports = fewer-reports x later (subst ReportsStand e stands.reports); hits = stands.hits }) k
-
 unhit-stands : (edition : Edition) (history : List Change) (c : Chip) → ChipStands edition history c → ChipStands edition history (record c { hits = [] })
 unfolding IsStrictlySortedBy
 unhit-stands edition history c k = record { applied = k.applied; reports = k.reports; hits = tt }
 
-swept-world : (w : World) (dom : ℕ) (c : Chip) → chip_at w dom ≡ Some c → IsWorld w → IsWorld (with_chip w (record c { hits = [] }))
-swept-world w dom c at k = chip-world w (record c { hits = [] }) (unhit-stands w.setup.domains.edition w.history c (chip-stands w dom c k at)) k
+module _ (w : World) where
+  answers-world : {step : Step} {chips : List Chip} {e : Event} → Answers w step chips e → IsWorld w → IsWorld (record w { chips = chips })
+  answers-world (by_command c) k = k
+  answers-world (by_moment moment) k = k
+  answers-world (by_report dom c x later at is) k =
+      let stands = chip-stands w dom c k at in
+      chip-world w (record c { reports = later }) (record { applied = stands.applied; reports = fewer-reports x later (subst ReportsStand is stands.reports); hits = stands.hits }) k
+  answers-world (by_sweep dom c at) k = chip-world w (record c { hits = [] }) (unhit-stands w.setup.domains.edition w.history c (chip-stands w dom c k at)) k
 
--- How a step ends that is of no frame and publishes nothing: it is refused, it is done, or it is the answer to an event. Nothing but the
--- world's chips differs, and what those have applied stays but for a turn.
-
--- the moment that comes by an event
-abbrev pub moment_in : Event → Option ℕ
-moment_in (events.Moment moment) = Some moment
-moment_in e = None
-
-pub data Ends (w : World) (step : Step) : Stepped → Type 0 where
-  ends_refused : (why : Refusal) → Ends w step (refused w why)
-  ends_done : (chips : List Chip) → (IsWorld w → IsWorld (record w { chips = chips })) → ((traits step).turn ≡ None → CountsStay w.chips chips) → (traits step).moment ≡ None
-      → Ends w step (done (record w { chips = chips }))
-  ends_answered : (chips : List Chip) (e : Event) → (IsWorld w → IsWorld (record w { chips = chips })) → CountsStay w.chips chips → moment_in e ≡ (traits step).moment
-      → Ends w step (answered w (record w { chips = chips }) (reacts w e))
-
-turns_to-ends : (w : World) (dom : ℕ) (c : Chip) (o : Option Change) → chip_at w dom ≡ Some c → next_of w c ≡ o → Ends w (Turn dom) (turns_to w c o)
-turns_to-ends w dom c None at e = ends_refused NothingPending
-turns_to-ends w dom c (Some d) at e = ends_done (put_chip w.chips (applies c d)) (turned-world w dom c d at e) (λ none. absurd (cc)) refl
-
-turns-ends : (w : World) (dom : ℕ) (o : Option Chip) → chip_at w dom ≡ o → Ends w (Turn dom) (turns w o)
-turns-ends w dom None at = ends_refused NothingPending
-turns-ends w dom (Some c) at = turns_to-ends w dom c (next_of w c) at refl
-
-tells-ends : (w : World) (dom : ℕ) (c : Chip) (rs : List Triple) → chip_at w dom ≡ Some c → c.reports ≡ rs → Ends w (Report dom) (tells w c rs)
-tells-ends w dom c [] at e = ends_refused NothingReported
-tells-ends w dom c (x ∷ later) at e =
-    ends_answered (put_chip w.chips (record c { reports = later })) (events.Told x.0 x.1 x.2) (told-world w dom c x later at e)
-    (put-counts w.chips c (record c { reports = later }) (chip-own w.chips dom c at) refl refl) refl
-
-reports-ends : (w : World) (dom : ℕ) (o : Option Chip) → chip_at w dom ≡ o → Ends w (Report dom) (reports w o)
-reports-ends w dom None at = ends_refused NothingReported
-reports-ends w dom (Some c) at = tells-ends w dom c c.reports at refl
-
-sweeps-ends : (w : World) (dom : ℕ) (o : Option Chip) → chip_at w dom ≡ o → Ends w (Sweep dom) (sweeps w o)
-sweeps-ends w dom None at = ends_done w.chips (λ k. k) (λ none. counts-same w.chips) refl
-sweeps-ends w dom (Some c) at =
-    ends_answered (put_chip w.chips (record c { hits = [] })) (swept w c) (swept-world w dom c at)
-    (put-counts w.chips c (record c { hits = [] }) (chip-own w.chips dom c at) refl refl) refl
-
-abbrev pub EndsBy : World → Step → Type 0
-EndsBy w (Rx port bytes) = Unit {0}
-EndsBy w Serve = Unit {0}
-EndsBy w Hold = Unit {0}
-EndsBy w (Post id point) = Unit {0}
-EndsBy w Publish = Unit {0}
-EndsBy w step = Ends w step (does w step)
-
-pub does-ends : (w : World) (step : Step) → EndsBy w step
-does-ends w (Cmd c) = ends_answered w.chips (events.Cmd c) (λ k. k) (counts-same w.chips) refl
-does-ends w (Now moment) = ends_answered w.chips (events.Moment moment) (λ k. k) (counts-same w.chips) refl
-does-ends w (Turn dom) = turns-ends w dom (chip_at w dom) refl
-does-ends w (Report dom) = reports-ends w dom (chip_at w dom) refl
-does-ends w (Sweep dom) = sweeps-ends w dom (chip_at w dom) refl
-does-ends w step = tt
-
-ends-world : (w : World) (step : Step) {y : Stepped} → Ends w step y → IsWorld w → IsWorld y.0
-ends-world w step (ends_refused why) k = k
-ends-world w step (ends_done chips stands counts moment) k = stands k
-ends-world w step (ends_answered chips e stands counts now) k = answered-world w (record w { chips = chips }) e k (stands k) refl
+  pub answers-counts : {step : Step} {chips : List Chip} {e : Event} → Answers w step chips e → CountsStay w.chips chips
+  answers-counts (by_command c) = counts-same w.chips
+  answers-counts (by_moment moment) = counts-same w.chips
+  answers-counts (by_report dom c x later at is) = put-counts w.chips c (record c { reports = later }) (chip-own w.chips dom c at) refl refl
+  answers-counts (by_sweep dom c at) = put-counts w.chips c (record c { hits = [] }) (chip-own w.chips dom c at) refl refl
 
 publishes-world : (w : World) → IsWorld w → IsWorld (publishes w (length w.history))
 publishes-world w k =
@@ -452,18 +376,25 @@ publishes-world w k =
 pub counted-world : (w : World) → IsWorld w → IsWorld (record w { steps = w.steps + 1 })
 counted-world w k = record { history = k.history; counts = k.counts; frames = k.frames; doms = k.doms; chips = k.chips }
 
-numbered-world : (w : World) → IsWorld w → IsWorld (record w { next = w.next + 1 })
-numbered-world w k = record { history = k.history; counts = k.counts; frames = frames-next k.frames; doms = k.doms; chips = k.chips }
-
-does-world : (w : World) (step : Step) → IsWorld w → IsWorld (does w step).0
-does-world w (Rx port bytes) k =
-    enters-world (record w { next = w.next + 1 }) w.next port bytes (frame bytes) refl (numbered-world w k) (omega arith)
-    (All-weaker (IsFrame w.setup.domains w.next) (λ (f : Waiting). f.id < w.next) (λ f is. is.id) (frames_of w.held w.waiting) k.frames.frames)
-does-world w Serve k = serves-world w w.waiting refl k
-does-world w Hold k = holds-world w w.waiting refl k
-does-world w (Post id point) k = posts_at-world w (held_with w id) point k
-does-world w Publish k = publishes-world w k
-does-world w step k = ends-world w step (does-ends w step) k
+ends-world : (w : World) {step : Step} {y : Stepped} → Ends w step y → IsWorld w → IsWorld y.0
+ends-world w (ends_refused why) k = k
+ends-world w (ends_unread port bytes why is) k = numbered-world w k
+ends-world w (ends_entered port bytes n) k = entry-world w port bytes n k
+ends-world w (ends_held f later is) k = record {
+  history = k.history;
+  counts = k.counts;
+  frames = frames-hold w.published (subst (λ l. FramesStand w.setup.domains w.counts w.held l w.next) is k.frames) (last-has w.published w.counts k.counts.last);
+  doms = k.doms;
+  chips = k.chips;
+}
+ends-world w (ends_sent f held waiting point leaves) k =
+    let v = record w { held = held; waiting = waiting } in
+    let l = leaves-world w leaves k in
+    answered-world v v (events.Sight f.port f.bytes f.head) l l refl
+ends-world w (ends_applied dom c d at is) k = turned-world w dom c d at is k
+ends-world w (ends_idle dom) k = k
+ends-world w (ends_answered chips e answers) k = answered-world w (record w { chips = chips }) e k (answers-world w answers k) refl
+ends-world w ends_published k = publishes-world w k
 
 pub step-world : (w : World) (step : Step) → IsWorld w → IsWorld (world_step w step).0
-step-world w step k = does-world (record w { steps = w.steps + 1 }) step (counted-world w k)
+step-world w step k = let u = record w { steps = w.steps + 1 } in ends-world u (does-ends u step) (counted-world w k)
