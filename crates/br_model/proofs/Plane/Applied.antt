@@ -11,104 +11,53 @@ use Rattle.std.proofs.lemmas.Option.{same_Some}
 use Rattle.lemmas.proofs.Lists.{drop-length}
 use Rattle.br_model.specs.declared.change.Change.{Change}
 use Rattle.br_model.specs.declared.domains.Edition.{Edition}
-use Rattle.br_model.specs.declared.frame.Class.{Class}
-use Rattle.br_model.specs.declared.frame.FrameFault.{FrameFault}
-use Rattle.br_model.specs.declared.frame.Head.{Head}
 use Rattle.br_model.specs.declared.steps.Event.TheVariants as events
 use Rattle.br_model.specs.declared.steps.Refusal.{Refusal}
-use Rattle.br_model.specs.Plane.Chip.{notes, Chip, first_chip, first_chips, applies}
+use Rattle.br_model.specs.Plane.Chip.{Chip, first_chip, first_chips, applies}
 use Rattle.br_model.specs.Table.Cut.{cut, deferred_of, synchronous_of}
-use Rattle.br_model.specs.Table.Domains.{domain_of, chip_domains, has_chip}
-use Rattle.br_model.specs.Wire.Frames.{frame}
+use Rattle.br_model.specs.Table.Domains.{chip_domains, has_chip}
 use Rattle.br_model.specs.Control.Reaction.{Reaction}
 use Rattle.br_model.specs.Table.Setup.{Setup}
-use Rattle.br_model.specs.Forward.Shares.{mark_of}
 use Rattle.br_model.specs.Table.Table.{table}
 use Rattle.br_model.specs.Theorems.Applied.{applied_in, turned_in, then_applied, applied}
 use Rattle.br_model.specs.Plane.ChipSteps.{turns_to, turns}
-use Rattle.br_model.specs.Plane.Entering.{waits, goes_on, enters_as, class_of, enters_by, chip_of}
 use Rattle.br_model.specs.Theorems.Invariants.{IsWorld}
 use Rattle.br_model.specs.Plane.Runs.{run, then_step}
-use Rattle.br_model.specs.Plane.Serving.{posts, serves, holds, held_with, lets_go, posts_at}
-use Rattle.br_model.specs.Plane.Steps.{does, world_step}
+use Rattle.br_model.specs.Plane.Steps.{world_step}
 use Rattle.br_model.specs.Plane.Traits.{traits}
 use Rattle.br_model.specs.declared.steps.Step.{Step}
-use Rattle.br_model.specs.declared.steps.Step.TheVariants.{Rx, Serve, Hold, Post, Turn, Publish}
-use Rattle.br_model.specs.Plane.World.{World, Waiting, Holding, Stepped, first_world, chip_at, next_of, table_of_chip, answered, reacts, with_chip}
+use Rattle.br_model.specs.declared.steps.Step.TheVariants.{Turn}
+use Rattle.br_model.specs.Plane.World.{World, Stepped, first_world, chip_at, next_of, answered, reacts}
 use Rattle.br_model.proofs.Plane.Applying.{after_accept, after_turn, once_after_accept, once_after_turn}
-use Rattle.br_model.proofs.Plane.Chips.{chip-dom, chip-own, chip-there, put-same, put-other, CountsStay, put-counts, counts-same, counted-before, chip_of-at}
-use Rattle.br_model.proofs.Plane.Kept.{Ends, ends_refused, ends_done, ends_answered, does-ends, first-world, step-world, notes-keeps, hit_by-keeps, chip-stands}
+use Rattle.br_model.proofs.Plane.Chips.{chip-dom, chip-there, put-same, put-other, CountsStay, counts-same, counted-before}
+use Rattle.br_model.proofs.Plane.Kept.{answers-counts, chip-stands, enters-counts, first-world, hit_by-keeps, step-world}
 use Rattle.br_model.proofs.Data.Lists.{find-each}
-use Rattle.br_model.proofs.Plane.Waiting.{goes_on-either, posts_at-either, waits-either}
+use Rattle.br_model.proofs.Plane.StepEnds.{Ends, does-ends, ends_answered, ends_applied, ends_entered, ends_held, ends_idle, ends_published, ends_refused, ends_sent, ends_unread}
+use Rattle.br_model.proofs.Plane.Stays.{step-stays}
 
 -- Changes are accepted behind those that were, and no chip applies a deferred one.
 abbrev Grows : World → World → Type 0
 Grows w v = (changes : List Change) × (v.setup ≡ w.setup) × (v.history ≡ w.history ++ changes) × CountsStay w.chips v.chips
 
-stays : (w v : World) → v.setup ≡ w.setup → v.history ≡ w.history → CountsStay w.chips v.chips → Grows w v
-stays w v setup same counts = ([], setup, same ∙ sym (append-nil w.history), counts)
+answered-counts : (w : World) (chips : List Chip) (answer : Result Reaction Refusal) → CountsStay w.chips chips → CountsStay w.chips (answered w (record w { chips = chips }) answer).0.chips
+answered-counts w chips (Err why) counts = counts-same w.chips
+answered-counts w chips (Ok r) counts = counts
 
-idle : (w : World) → Grows w w
-idle w = stays w w refl refl (counts-same w.chips)
+ends-counts : (w : World) {step : Step} {y : Stepped} → (traits step).turn ≡ None → Ends w step y → CountsStay w.chips y.0.chips
+ends-counts w none (ends_refused why) = counts-same w.chips
+ends-counts w none (ends_unread port bytes why is) = counts-same w.chips
+ends-counts w none (ends_entered port bytes n) = enters-counts w port bytes n.head n.enters
+ends-counts w none (ends_held f later is) = counts-same w.chips
+ends-counts w none (ends_sent f held waiting point leaves) =
+    let v = record w { held = held; waiting = waiting } in answered-counts v w.chips (reacts v (events.Sight f.port f.bytes f.head)) (counts-same w.chips)
+ends-counts w none (ends_applied dom c d at is) = absurd (cc)
+ends-counts w none (ends_idle dom) = counts-same w.chips
+ends-counts w none (ends_answered chips e answers) = answered-counts w chips (reacts w e) (answers-counts w answers)
+ends-counts w none ends_published = counts-same w.chips
 
-answered-grows : (before after : World) (answer : Result Reaction Refusal) → after.setup ≡ before.setup → after.history ≡ before.history → CountsStay before.chips after.chips
-    → Grows before (answered before after answer).0
-answered-grows before after (Err why) setup same counts = idle before
-answered-grows before after (Ok r) setup same counts = (r.changes, setup, ap (λ (h : List Change). h ++ r.changes) same, counts)
-
-waits-grows : (w : World) (f : Waiting) → Grows w (waits w f).0
-waits-grows w f = waits-either (λ s. Grows w s.0) w f (stays w (record w { waiting = w.waiting ++ f ∷ [] }) refl refl (counts-same w.chips)) (idle w)
-
-goes_on-grows : (c : Class) (w : World) (f : Waiting) → Grows w (goes_on c w f).0
-goes_on-grows c w f = goes_on-either (λ s. Grows w s.0) c w f (idle w) (waits-grows w f)
-
-enters_by-grows : (w : World) (f : Waiting) (o : Option Chip) → chip_of w (domain_of w.setup.domains f.port) ≡ o → Grows w (enters_by w o f).0
-enters_by-grows w f None on = waits-grows w f
-enters_by-grows w f (Some c) on =
-    let at = chip_of-at w (domain_of w.setup.domains f.port) c on in
-    let keep = notes-keeps (table_of_chip w c) f.port f.head c in
-    let d = notes (table_of_chip w c) f.port f.head c in
-    let g = goes_on-grows (class_of w c f) (with_chip w d) (record f { mark = mark_of (class_of w c f) w.setup.domains f.port }) in
-    (g.0, g.1, g.2, λ dom. g.3 dom ∙ put-counts w.chips c d (chip-own w.chips at.0 c at.2) keep.dom keep.count dom)
-
-enters-grows : (w : World) (id port : ℕ) (bytes : List ℕ) (r : Result Head FrameFault) → Grows w (enters_as w id port bytes r).0
-enters-grows w id port bytes (Err why) = idle w
-enters-grows w id port bytes (Ok head) =
-    enters_by-grows w (record { id = id; port = port; bytes = bytes; head = head; mark = None }) (chip_of w (domain_of w.setup.domains port)) refl
-
-posts-grows : (w : World) (f : Waiting) (point : ℕ) → Grows w (posts w f point).0
-posts-grows w f point = answered-grows w w (reacts w (events.Sight f.port f.bytes f.head)) refl refl (counts-same w.chips)
-
-serves-grows : (w : World) (fs : List Waiting) → Grows w (serves w fs).0
-serves-grows w [] = idle w
-serves-grows w (f ∷ later) = posts-grows (record w { waiting = later }) f w.published
-
-holds-grows : (w : World) (fs : List Waiting) → Grows w (holds w fs).0
-holds-grows w [] = idle w
-holds-grows w (f ∷ later) = stays w (holds w (f ∷ later)).0 refl refl (counts-same w.chips)
-
-posts_at-grows : (w : World) (o : Option Holding) (point : Option ℕ) → Grows w (posts_at w o point).0
-posts_at-grows w o point = posts_at-either (λ s. Grows w s.0) w (λ why. idle w) (λ h p. posts-grows (lets_go w h.waiting.id) h.waiting p) o point
-
--- where it is of no frame, no turn, and publishes nothing
-ends-grows : (w : World) (step : Step) {y : Stepped} → (traits step).turn ≡ None → Ends w step y → Grows w y.0
-ends-grows w step none (ends_refused why) = idle w
-ends-grows w step none (ends_done chips stands counts moment) = stays w (record w { chips = chips }) refl refl (counts none)
-ends-grows w step none (ends_answered chips e stands counts now) = answered-grows w (record w { chips = chips }) (reacts w e) refl refl counts
-
--- a turn applies a change
-abbrev GrowsBy : World → Step → Type 0
-GrowsBy w (Turn dom) = Unit {0}
-GrowsBy w step = Grows w (does w step).0
-
-does-grows : (w : World) (step : Step) → GrowsBy w step
-does-grows w (Rx port bytes) = enters-grows (record w { next = w.next + 1 }) w.next port bytes (frame bytes)
-does-grows w Serve = serves-grows w w.waiting
-does-grows w Hold = holds-grows w w.waiting
-does-grows w (Post id point) = posts_at-grows w (held_with w id) point
-does-grows w (Turn dom) = tt
-does-grows w Publish = stays w (does w Publish).0 refl refl (counts-same w.chips)
-does-grows w step = ends-grows w step refl (does-ends w step)
+-- where it isn't a turn
+step-grows : (w : World) (step : Step) → (traits step).turn ≡ None → Grows w (world_step w step).0
+step-grows w step none = let u = record w { steps = w.steps + 1 } in let s = step-stays w step in (s.0, s.1, s.2, ends-counts u none (does-ends u step))
 
 -- What is applied so far by a chip that has so many deferred changes: it makes the chip's table, and holds each synchronous change
 -- and the first deferred ones once, each kind in order.
@@ -187,16 +136,11 @@ turn-applies w dom e done a =
 
 pub step-applies : (w : World) (dom : ℕ) (done : List Change) (step : Step) → IsWorld w → AppliesAt dom w done → AppliesAt dom (world_step w step).0 (done ++ applied_in dom w step)
 step-applies w dom done (Turn e) k a = turn-applies (record w { steps = w.steps + 1 }) dom e done a
-step-applies w dom done step k a = accepts-applies w (world_step w step).0 dom done k a (does-grows (record w { steps = w.steps + 1 }) step)
+step-applies w dom done step k a = accepts-applies w (world_step w step).0 dom done k a (step-grows w step refl)
 
 -- No step changes what was said before.
-turns-setup : (w : World) (o : Option Chip) → (turns w o).0.setup ≡ w.setup
-turns-setup w None = refl
-turns-setup w (Some c) = elim (next_of w c) as (λ o. (turns_to w c o).0.setup ≡ w.setup) [ None ↦ refl | Some x ↦ refl ]
-
 pub step-setup : (w : World) (step : Step) → (world_step w step).0.setup ≡ w.setup
-step-setup w (Turn e) = turns-setup (record w { steps = w.steps + 1 }) (chip_at w e)
-step-setup w step = (does-grows (record w { steps = w.steps + 1 }) step).1
+step-setup w step = (step-stays w step).1
 
 -- Runs.
 
