@@ -38,7 +38,7 @@ use Rattle.br_model.specs.Plane.World.{World, Waiting, Holding, Stepped, table_a
 use Rattle.br_model.proofs.Table.Cuts.{cut-all}
 use Rattle.br_model.proofs.Plane.Applied.{run-world}
 use Rattle.br_model.proofs.Plane.Chips.{chip_of-declared}
-use Rattle.br_model.proofs.Plane.Fates.{sent_of-append, sent_of-sent, found-push, goes_on-joins, hold_entry, wait_entry, waiting_found, found, found-free, found-taken}
+use Rattle.br_model.proofs.Plane.Fates.{sent_of-append, sent_of-sent, found-push, goes_on-silent, hold_entry, wait_entry, waiting_found, found, found-free, found-taken}
 use Rattle.br_model.proofs.Plane.Fates.{Fate, idle, entered, taken, gone, said-none, said-held, said-soft, step-effect, same-entry}
 use Rattle.br_model.proofs.Plane.Kept.{step-world}
 use Rattle.br_model.proofs.Data.Lists.{up-to-last, has-up-to}
@@ -192,7 +192,7 @@ module _ (w : World) (port : ℕ) (bytes : List ℕ) (head : Head) (k : IsWorld 
 
   says : (c : Class) → sent_of w.next (enters-as c).1 ≡ share
   says c =
-      sent_of-sent w.next w.next share (goes_on c noted (marked c)).1 (goes_on-joins c w.next noted (marked c)).silent ∙ ap (λ b. cond b share []) (eq-eqb w.next w.next refl)
+      sent_of-sent w.next w.next share (goes_on c noted (marked c)).1 (goes_on-silent c w.next noted (marked c)).silent ∙ ap (λ b. cond b share []) (eq-eqb w.next w.next refl)
 
   free : found w.next w.held w.waiting ≡ []
   free = found-free w.next w k (omega arith)
@@ -234,7 +234,7 @@ module _ (w : World) (port : ℕ) (bytes : List ℕ) (head : Head) (k : IsWorld 
     -- one that goes on waits
     is-pending : (c : Class) (whole : in_port_order (share ++ soft_out w.setup.domains t port bytes head (mark_of c w.setup.domains port)) ≡ one)
         → found w.next (enters-as c).0.held (enters-as c).0.waiting ≡ (marked c, None) ∷ [] → IsPending w.next w.setup.domains w.history t is-table (marked c) share one whole (after-entry c)
-    is-pending c whole there = record { from = None; there = there; floor = tt; published = (goes_on-joins c w.next noted (marked c)).published ∙ published; sent = said c }
+    is-pending c whole there = record { from = None; there = there; floor = tt; published = (goes_on-silent c w.next noted (marked c)).published ∙ published; sent = said c }
 
     module _ (after : List Step) where
       -- what is asked of the steps that follow
@@ -244,10 +244,10 @@ module _ (w : World) (port : ℕ) (bytes : List ℕ) (head : Head) (k : IsWorld 
           → is_there w.next (fold then_step z after).0 ≡ false → in_port_order (sent_of w.next (fold then_step z after).1) ≡ one
 
       domains-stay : (c : Class) → (enters-as c).0.setup.domains ≡ w.setup.domains
-      domains-stay c = ap (λ (s : Setup). s.domains) (goes_on-joins c w.next noted (marked c)).setup
+      domains-stay c = ap (λ (s : Setup). s.domains) (goes_on-silent c w.next noted (marked c)).setup
 
       id-taken : (c : Class) → w.next < (enters-as c).0.next
-      id-taken c = omega (arith, (goes_on-joins c w.next noted (marked c)).next)
+      id-taken c = omega (arith, (goes_on-silent c w.next noted (marked c)).next)
 
       room-in : (c : Class) → list_any (is_overrun w.next) (after-entry c).1 ≡ false → list_any (is_overrun w.next) (goes_on c noted (marked c)).1 ≡ false
       room-in c h =

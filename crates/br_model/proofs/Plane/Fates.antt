@@ -1,11 +1,11 @@
 -- What a step does to the frame with one id: it enters, is held, or is sent and gone, or nothing happens to it.
 use Rattle.std.proofs.Common.{◌≡◌, ℕ, suc, ◌+◌, ◌<◌, ◌≤◌, Bool, true, false, not, cond, List, [], ◌∷◌, ◌++◌, map, length}
 use Rattle.std.proofs.Common.{Option, None, Some, refl, sym, ap, ◌∙◌, arith, append_assoc, length-append, take, ◌⊎◌, inl, inr, ⊎_elim, get_or}
-use Rattle.std.proofs.lemmas.Bool.{eq-eqb, eqb-true, eqb-false, ne_eqb, cases_lt, and_parts, leb-true}
+use Rattle.std.proofs.lemmas.Bool.{eq-eqb, eqb-true, eqb-false, ne_eqb, cases_lt}
 use Rattle.std.proofs.lemmas.List.{append-nil, map-append, length-map}
 use Rattle.std.proofs.lemmas.List.Elements.{filter-append, recursion_from_All, All-weaker}
 use Rattle.std.proofs.lemmas.Grind.{flat_map-append}
-use Rattle.std.specs.Prelude.{◌==◌, nat_le, is_some}
+use Rattle.std.specs.Prelude.{◌==◌, is_some}
 use Rattle.std.specs.List.{AllByRecursion, IsDistinct, filter, find}
 use Rattle.std.specs.Option.{option_map_or, option_zip}
 use Rattle.std.specs.Ordering.{nat_cmp}
@@ -20,35 +20,34 @@ use Rattle.br_model.specs.declared.frame.FrameFault.{FrameFault}
 use Rattle.br_model.specs.declared.frame.Head.{Head}
 use Rattle.br_model.specs.declared.steps.Event.TheVariants as events
 use Rattle.br_model.specs.declared.steps.Refusal.{Refusal}
-use Rattle.br_model.specs.declared.steps.Refusal.TheVariants.{NoSuchPoint}
 use Rattle.br_model.specs.declared.bpdu.BpduMsg.{BpduMsg}
 use Rattle.br_model.specs.declared.transcript.Line.TheVariants.{Done}
 use Rattle.br_model.specs.declared.transcript.Line.TheVariants as lines
-use Rattle.br_model.specs.Plane.Chip.{Chip, notes}
+use Rattle.br_model.specs.Plane.Chip.{applies, Chip}
 use Rattle.br_model.specs.Table.DomainPorts.{is_marked}
 use Rattle.br_model.specs.Table.Domains.{Domains, domain_of, foreign}
 use Rattle.br_model.specs.Wire.Frames.{frame}
 use Rattle.br_model.specs.Data.Maps.{has}
 use Rattle.br_model.specs.Control.Reaction.{Reaction}
-use Rattle.br_model.specs.Table.Setup.{Setup}
 use Rattle.br_model.specs.Forward.Leave.{leave}
-use Rattle.br_model.specs.Forward.Shares.{chip_out, chip_out_by, within, mark_of, soft_out}
+use Rattle.br_model.specs.Forward.Shares.{chip_out, chip_out_by, mark_of, soft_out}
 use Rattle.br_model.specs.Table.Table.{Table, table}
 use Rattle.br_model.proofs.Plane.Chips.{chip_of-declared}
-use Rattle.br_model.proofs.Plane.Kept.{Ends, ends_refused, ends_done, ends_answered, does-ends, counted-world}
+use Rattle.br_model.proofs.Plane.Kept.{counted-world, enters-id}
+use Rattle.br_model.proofs.Plane.StepEnds.{by_chip, by_post, by_serve, by_software, does-ends, Ends, ends_answered, ends_applied, ends_entered, ends_held, ends_idle, ends_published}
+use Rattle.br_model.proofs.Plane.StepEnds.{ends_refused, ends_sent, ends_unread, Enters, Entry, finds_room, goes, Joins, Leaves, overruns, passes_by}
 use Rattle.br_model.proofs.Data.Lists.{find-each}
 use Rattle.br_model.proofs.Plane.Shares.{ascends-filter, ascends-leave, times-ascends, times-within}
 use Rattle.br_model.proofs.Plane.Waiting.{goes_on-either, waits-either}
-use Rattle.br_model.specs.Plane.Entering.{waits, goes_on, enters_chip, enters_as, class_of, enters_by, chip_of}
-use Rattle.br_model.specs.Plane.Serving.{posts, serves, holds, held_with, lets_go, is_point, posts_held, posts_at}
+use Rattle.br_model.specs.Plane.Entering.{waits, goes_on, class_of}
+use Rattle.br_model.specs.Plane.Serving.{posts, holds, lets_go}
 use Rattle.br_model.specs.Plane.Steps.{does, world_step}
 use Rattle.br_model.specs.declared.steps.Step.{Step}
-use Rattle.br_model.specs.declared.steps.Step.TheVariants.{Rx, Serve, Hold, Post, Publish}
 use Rattle.br_model.specs.Theorems.Invariants.{frames_of, IsFrame, IsWorld}
 use Rattle.br_model.specs.Plane.LineTraits.{line_traits}
 use Rattle.br_model.specs.Plane.Sending.{Sent, sent_by, sent_of, times}
-use Rattle.br_model.specs.Theorems.FrameLines.{IsDecidedAt, is_line_of, lines_of}
-use Rattle.br_model.specs.Plane.World.{World, Waiting, Holding, Stepped, with_chip, table_at, table_of_chip, sent, control_lines, answered, reacts, refused}
+use Rattle.br_model.specs.Theorems.FrameLines.{entering, IsDecidedAt, is_line_of, lines_of}
+use Rattle.br_model.specs.Plane.World.{World, Waiting, Holding, Stepped, with_chip, table_at, table_of_chip, sent, control_lines, answered, reacts}
 
 -- The lines of a frame that is sent.
 
@@ -279,61 +278,43 @@ answers id before after answer a = quiet id before _ _ (answered-alike before af
 
 -- A frame enters.
 
--- it is among those that wait, or isn't, and nothing is sent
-pub record Joins (id : ℕ) (u : World) (f : Waiting) (y : Stepped) : Type 0 where
+-- what goes on to software sends nothing
+pub record GoesOn (id : ℕ) (u : World) (y : Stepped) : Type 0 where
   pub setup : y.0.setup ≡ u.setup
   pub next : y.0.next ≡ u.next
   pub published : y.0.published ≡ u.published
   pub silent : sent_of id y.1 ≡ []
-  pub others : (f.id == id) ≡ false → lines_of id y.1 ≡ []
-  pub found : (found id y.0.held y.0.waiting ≡ found id u.held u.waiting) ⊎ (found id y.0.held y.0.waiting ≡ found id u.held u.waiting ++ cond (f.id == id) ((f, None) ∷ []) [])
 
-waits-joins : (id : ℕ) (u : World) (f : Waiting) → Joins id u f (waits u f)
-waits-joins id u f =
-    waits-either (Joins id u f) u f
-    (record { setup = refl; next = refl; published = refl; silent = refl; others = λ e. refl; found = inr (found-push id u.held u.waiting f) })
-    (record { setup = refl; next = refl; published = refl; silent = refl; others = λ e. ap (λ b. cond b (lines.Overrun f.id ∷ []) []) e; found = inl refl })
+pub goes_on-silent : (c : Class) (id : ℕ) (u : World) (f : Waiting) → GoesOn id u (goes_on c u f)
+goes_on-silent c id u f =
+    let nothing = record { setup = refl; next = refl; published = refl; silent = refl } in
+    goes_on-either (GoesOn id u) c u f nothing (waits-either (GoesOn id u) u f nothing nothing)
 
-pub goes_on-joins : (c : Class) (id : ℕ) (u : World) (f : Waiting) → Joins id u f (goes_on c u f)
-goes_on-joins c id u f = goes_on-either (Joins id u f) c u f (record { setup = refl; next = refl; published = refl; silent = refl; others = λ e. refl; found = inl refl }) (waits-joins id u f)
+-- what the first lines of a frame that enters tell, and where it goes on to software after them
+record Shares (w : World) (f : Waiting) (first : List Line) (goes_on : Bool) : Type 0 where
+  out : Sent
+  says : (end : List Line) → sent_of w.next end ≡ [] → sent_of w.next (first ++ end) ≡ out
+  others : (id : ℕ) (end : List Line) → (w.next == id) ≡ false → lines_of id end ≡ [] → lines_of id (first ++ end) ≡ []
+  once : (port : ℕ) → times port out ≤ 1
+  marked : goes_on ≡ true → (port : ℕ) → is_marked w.setup.domains f.mark port ≡ false → times port out ≡ 0
 
--- it waits now, sent to ports of its mark's domain alone, or the frames that were there are all
-abbrev Settled : ℕ → World → Waiting → Stepped → Sent → Type 0
-Settled id u f y out =
-    (found id y.0.held y.0.waiting ≡ found id u.held u.waiting)
-    ⊎ ((found id y.0.held y.0.waiting ≡ found id u.held u.waiting ++ cond (f.id == id) ((f, None) ∷ []) []) × ((port : ℕ) → is_marked u.setup.domains f.mark port ≡ false → times port out ≡ 0))
+-- what the last lines tell, and whether the frame is among those that wait then
+record Settles (id : ℕ) (held : List Holding) (waiting : List Waiting) (f : Waiting) (goes_on : Bool) (after : List Waiting) (last : List Line) : Type 0 where
+  silent : sent_of id last ≡ []
+  others : (f.id == id) ≡ false → (found id held after ≡ found id held waiting) × (lines_of id last ≡ [])
+  own : (f.id == id) ≡ true → found id held waiting ≡ [] → (found id held after ≡ []) ⊎ ((found id held after ≡ (f, None) ∷ []) × (goes_on ≡ true))
 
-settles : (id : ℕ) (u : World) (f : Waiting) (y : Stepped) (out : Sent) → Joins id u f y → ((port : ℕ) → is_marked u.setup.domains f.mark port ≡ false → times port out ≡ 0) → Settled id u f y out
-settles id u f y out j marked =
-    ⊎_elim (λ (h : found id y.0.held y.0.waiting ≡ found id u.held u.waiting). inl h)
-    (λ (h : found id y.0.held y.0.waiting ≡ found id u.held u.waiting ++ cond (f.id == id) ((f, None) ∷ []) []). inr (h, marked)) j.found
-
-entry : (id : ℕ) (w u : World) (f : Waiting) (y : Stepped) (told : List Line) (out : Sent) → IsWorld w → f.id ≡ w.next → Joins id u f y → u.setup ≡ w.setup → u.next ≡ w.next + 1
-    → u.published ≡ w.published
-    → found id u.held u.waiting ≡ found id w.held w.waiting → sent_of id told ≡ cond (f.id == id) out [] → ((f.id == id) ≡ false → lines_of id told ≡ [])
-    → ((port : ℕ) → times port out ≤ 1) → Settled id u f y out → Effect id w y.0 told
-entry id w u f y told out k own j setup next published same says others once settled = record {
-  setup = j.setup ∙ setup;
-  next = omega (arith, j.next, next);
-  published = inl (j.published ∙ published);
-  fate = (elim (f.id == id) as (λ b. (f.id == id) ≡ b → sent_of id told ≡ cond b out [] → (found id y.0.held y.0.waiting ≡ found id u.held u.waiting)
-      ⊎ ((found id y.0.held y.0.waiting ≡ found id u.held u.waiting ++ cond b ((f, None) ∷ []) []) × ((port : ℕ) → is_marked u.setup.domains f.mark port ≡ false → times port out ≡ 0))
-      → Fate id w y.0 told) [
-        | true ↦ λ e said there.
-            let is : id ≡ w.next = sym (eqb-true f.id id e) ∙ own in
-            let free = same ∙ found-free id w k (omega (arith, is)) in
-            entered out is (j.next ∙ next) said once (⊎_elim
-            (λ (h : found id y.0.held y.0.waiting ≡ found id u.held u.waiting). inl (h ∙ free))
-            (λ (h : (found id y.0.held y.0.waiting ≡ found id u.held u.waiting ++ (f, None) ∷ []) × ((port : ℕ) → is_marked u.setup.domains f.mark port ≡ false → times port out ≡ 0)).
-            inr (f, h.0 ∙ ap (λ (l : Found). l ++ (f, None) ∷ []) free, λ port no_mark. h.1 port (ap (λ (s : Setup). is_marked s.domains f.mark port) (sym j.setup) ∙ no_mark)))
-            there)
-        | false ↦ λ e said there. idle (⊎_elim
-            (λ (h : found id y.0.held y.0.waiting ≡ found id u.held u.waiting). h ∙ same)
-            (λ (h : (found id y.0.held y.0.waiting ≡ found id u.held u.waiting ++ []) × ((port : ℕ) → is_marked u.setup.domains f.mark port ≡ false → times port out ≡ 0)). h.0
-            ∙ append-nil (found id u.held u.waiting) ∙ same)
-            there) (others e)
-      ]) refl says settled;
-}
+joins-settles : (id : ℕ) (held : List Holding) (waiting : List Waiting) (f : Waiting) {b : Bool} {after : List Waiting} {last : List Line} → Joins held waiting f b after last
+    → Settles id held waiting f b after last
+joins-settles id held waiting f passes_by = record { silent = refl; others = λ e. (refl, refl); own = λ e free. inl free }
+joins-settles id held waiting f (finds_room room) =
+    let pushed = found-push id held waiting f in
+    record {
+      silent = refl;
+      others = λ e. (pushed ∙ ap (λ b. found id held waiting ++ cond b ((f, None) ∷ []) []) e ∙ append-nil (found id held waiting), refl);
+      own = λ e free. inr (pushed ∙ (λ i. free i ++ cond (e i) ((f, None) ∷ []) []), refl);
+    }
+joins-settles id held waiting f (overruns full) = record { silent = refl; others = λ e. (refl, ap (λ b. cond b (lines.Overrun f.id ∷ []) []) e); own = λ e free. inl free }
 
 -- what the chip sends of a frame
 module _ (domains : Domains) (t : Table) (port : ℕ) (bytes : List ℕ) (head : Head) where
@@ -343,61 +324,52 @@ module _ (domains : Domains) (t : Table) (port : ℕ) (bytes : List ℕ) (head :
   chip-once Copy q = times-ascends q _ (ascends-filter (λ (x : ℕ × List ℕ). not (foreign domains port x.0)) (leave t port bytes head) (ascends-leave t port bytes head))
   chip-once Forward q = times-ascends q _ (ascends-filter (λ (x : ℕ × List ℕ). not (foreign domains port x.0)) (leave t port bytes head) (ascends-leave t port bytes head))
 
-  -- where it is marked, it was sent to ports of the mark's domain alone
-  chip-marked : is_some (domain_of domains port) ≡ true → (q : ℕ) → is_marked domains (domain_of domains port) q ≡ false → times q (within domains port (leave t port bytes head)) ≡ 0
-  chip-marked declared q h = times-within domains port declared q (leave t port bytes head) h
+  -- where it goes on, it was sent to ports of its mark's domain alone
+  chip-marked : is_some (domain_of domains port) ≡ true → (c : Class) → goes c ≡ true → (q : ℕ) → is_marked domains (mark_of c domains port) q ≡ false
+      → times q (chip_out_by c domains port (leave t port bytes head)) ≡ 0
+  chip-marked declared Drop on q h = refl
+  chip-marked declared Trap on q h = refl
+  chip-marked declared Copy on q h = times-within domains port declared q (leave t port bytes head) h
+  chip-marked declared Forward on q h = absurd (cc)
 
-module _ (id : ℕ) (u : World) (t : Table) (f : Waiting) (declared : is_some (domain_of u.setup.domains f.port) ≡ true) where
-  class-settles : (c : Class)
-      → Settled id u (record f { mark = mark_of c u.setup.domains f.port }) (goes_on c u (record f { mark = mark_of c u.setup.domains f.port }))
-      (chip_out_by c u.setup.domains f.port (leave t f.port f.bytes f.head))
-  class-settles Drop = inl refl
-  class-settles Trap = settles id u (record f { mark = None }) (waits u (record f { mark = None })) [] (waits-joins id u (record f { mark = None })) (λ port h. refl)
-  class-settles Copy =
-      let g : Waiting = record f { mark = domain_of u.setup.domains f.port } in
-      settles id u g (waits u g) _ (waits-joins id u g) (chip-marked u.setup.domains t f.port f.bytes f.head declared)
-  class-settles Forward = inl refl
-
-nothing : (b : Bool) → cond {A = Sent} b [] [] ≡ []
-nothing true = refl
-nothing false = refl
-
--- the world has counted the frame
-abbrev numbered : World → World
-numbered w = record w { next = w.next + 1 }
-
-enters_by-effect : (id : ℕ) (w : World) (port : ℕ) (bytes : List ℕ) (head : Head) (o : Option Chip) → chip_of w (domain_of w.setup.domains port) ≡ o → IsWorld w
-    → let f : Waiting = record { id = w.next; port = port; bytes = bytes; head = head; mark = None } in Effect id w (enters_by (numbered w) o f).0 (enters_by (numbered w) o f).1
-enters_by-effect id w port bytes head None on k =
-    let u : World = numbered w in
-    let f : Waiting = record { id = w.next; port = port; bytes = bytes; head = head; mark = None } in
-    entry id w u f (waits u f) (waits u f).1 [] k refl (waits-joins id u f) refl refl refl refl ((waits-joins id u f).silent ∙ sym (nothing (w.next == id))) (waits-joins id u f).others
-    (λ q. omega arith) (settles id u f (waits u f) [] (waits-joins id u f) (λ q h. refl))
-enters_by-effect id w port bytes head (Some c) on k =
-    let u : World = numbered w in
-    let f : Waiting = record { id = w.next; port = port; bytes = bytes; head = head; mark = None } in
-    let t = table_of_chip u c in
-    let class = class_of u c f in
-    let v : World = with_chip u (notes t port head c) in
-    let g : Waiting = record f { mark = mark_of class w.setup.domains port } in
+enters-shares : (w : World) (port : ℕ) (bytes : List ℕ) (head : Head) {chips : List Chip} {f : Waiting} {first : List Line} {b : Bool} → Enters w port bytes head chips f first b
+    → Shares w f first b
+enters-shares w port bytes head (by_software on) = record { out = []; says = λ end h. h; others = λ id end e h. h; once = λ q. omega arith; marked = λ on q h. refl }
+enters-shares w port bytes head (by_chip c on) =
+    let t = table_of_chip w c in
+    let class = class_of w c (entering w port bytes head) in
     let out = chip_out w.setup.domains t port bytes head in
-    let joins = goes_on-joins class id v g in
-    entry id w v g (goes_on class v g) (enters_chip u c class f).1 out k refl joins refl refl refl refl (sent_of-sent id w.next out (goes_on class v g).1 joins.silent)
-    (λ e. lines-chip id w.next (length u.history) c.count class out (goes_on class v g).1 e (joins.others e)) (chip-once w.setup.domains t port bytes head class)
-    (class-settles id v t f (chip_of-declared w (domain_of w.setup.domains port) c on) class)
+    record {
+      out = out;
+      says = λ end h. sent_of-sent w.next w.next out end h ∙ ap (λ b. cond b out []) (eq-eqb w.next w.next refl);
+      others = λ id end e h. lines-chip id w.next (length w.history) c.count class out end e h;
+      once = chip-once w.setup.domains t port bytes head class;
+      marked = chip-marked w.setup.domains t port bytes head (chip_of-declared w (domain_of w.setup.domains port) c on) class;
+    }
 
-enters-effect : (id : ℕ) (w : World) (port : ℕ) (bytes : List ℕ) (r : Result Head FrameFault) → IsWorld w
-    → Effect id w (enters_as (record w { next = w.next + 1 }) w.next port bytes r).0 (enters_as (record w { next = w.next + 1 }) w.next port bytes r).1
-enters-effect id w port bytes (Err why) k = record {
-  setup = refl;
-  next = omega arith;
-  published = inl refl;
-  fate = (elim (w.next == id) as (λ b. (w.next == id) ≡ b → Fate id w (record w { next = w.next + 1 }) (lines.Unread w.next why ∷ [])) [
-    | true ↦ λ e. let is : id ≡ w.next = sym (eqb-true w.next id e) in entered [] is refl refl (λ port. omega arith) (inl (found-free id w k (omega (arith, is))))
-    | false ↦ λ e. idle refl (ap (λ b. cond b (lines.Unread w.next why ∷ []) []) e)
-  ]) refl;
-}
-enters-effect id w port bytes (Ok head) k = enters_by-effect id w port bytes head (chip_of w (domain_of w.setup.domains port)) refl k
+entry-fate : (id : ℕ) (w : World) (port : ℕ) (bytes : List ℕ) (n : Entry w port bytes) → IsWorld w
+    → Fate id w (record w { next = w.next + 1; chips = n.chips; waiting = n.waiting }) (n.first ++ n.last)
+entry-fate id w port bytes n k =
+    let its : n.entered.id ≡ w.next = enters-id w port bytes n.head n.enters in
+    let s = enters-shares w port bytes n.head n.enters in
+    let j = joins-settles id w.held w.waiting n.entered n.joins in
+    let silent = (joins-settles w.next w.held w.waiting n.entered n.joins).silent in
+    (elim (w.next == id) as (λ b. (w.next == id) ≡ b → Fate id w (record w { next = w.next + 1; chips = n.chips; waiting = n.waiting }) (n.first ++ n.last)) [
+      | true ↦ λ e.
+          let is : id ≡ w.next = sym (eqb-true w.next id e) in
+          entered s.out is refl (ap (λ (m : ℕ). sent_of m (n.first ++ n.last)) is ∙ s.says n.last silent) s.once (⊎_elim
+          (λ (h : found id w.held n.waiting ≡ []). inl h)
+          (λ (h : (found id w.held n.waiting ≡ (n.entered, None) ∷ []) × (n.goes_on ≡ true)). inr (n.entered, h.0, s.marked h.1))
+          (j.own (ap (λ (m : ℕ). m == id) its ∙ e) (found-free id w k (omega (arith, is)))))
+      | false ↦ λ e. let other = j.others (ap (λ (m : ℕ). m == id) its ∙ e) in idle other.0 (s.others id n.last e other.1)
+    ]) refl
+
+unread-fate : (id : ℕ) (w : World) (why : FrameFault) → IsWorld w → Fate id w (record w { next = w.next + 1 }) (lines.Unread w.next why ∷ [])
+unread-fate id w why k =
+    (elim (w.next == id) as (λ b. (w.next == id) ≡ b → Fate id w (record w { next = w.next + 1 }) (lines.Unread w.next why ∷ [])) [
+      | true ↦ λ e. let is : id ≡ w.next = sym (eqb-true w.next id e) in entered [] is refl refl (λ port. omega arith) (inl (found-free id w k (omega (arith, is))))
+      | false ↦ λ e. idle refl (ap (λ b. cond b (lines.Unread w.next why ∷ []) []) e)
+    ]) refl
 
 -- A frame is held, or sent.
 
@@ -427,21 +399,8 @@ posts-effect id w u f o point setup next published history mine other decided =
       ]) refl says;
     }
 
-serves-effect : (id : ℕ) (w : World) (fs : List Waiting) → w.waiting ≡ fs → IsWorld w → Effect id w (serves w fs).0 (serves w fs).1
-serves-effect id w [] e k = quiet id w w _ (alike w) refl
-serves-effect id w (f ∷ later) e k =
-    posts-effect id w (record w { waiting = later }) f None w.published refl refl refl refl
-    (λ mine.
-    let is : found id w.held w.waiting ≡ held_found id w.held ++ (f, None) ∷ waiting_found id later =
-    ap (found id w.held) e ∙ ap (λ b. held_found id w.held ++ map wait_entry (cond b (f ∷ filter (λ g. g.id == id) later) (filter (λ g. g.id == id) later))) mine in
-    let rest = alone id w (held_found id w.held) (waiting_found id later) (f, None) k is in
-    (is ∙ (λ i. rest.0 i ++ (f, None) ∷ rest.1 i), λ i. rest.0 i ++ rest.1 i))
-    (λ other. sym (ap (found id w.held) e ∙ ap (λ b. held_found id w.held ++ map wait_entry (cond b (f ∷ filter (λ g. g.id == id) later) (filter (λ g. g.id == id) later))) other))
-    refl
-
-holds-effect : (id : ℕ) (w : World) (fs : List Waiting) → w.waiting ≡ fs → IsWorld w → Effect id w (holds w fs).0 (holds w fs).1
-holds-effect id w [] e k = quiet id w w _ (alike w) refl
-holds-effect id w (f ∷ later) e k =
+holds-effect : (id : ℕ) (w : World) (f : Waiting) (later : List Waiting) → w.waiting ≡ f ∷ later → IsWorld w → Effect id w (holds w (f ∷ later)).0 (holds w (f ∷ later)).1
+holds-effect id w f later e k =
     let h : Holding = record { waiting = f; floor = w.published } in
     let now = ap (λ (l : Found). l ++ waiting_found id later) (held-push id w.held h) in
     let before = ap (found id w.held) e in
@@ -494,9 +453,22 @@ others-stay id i (h ∷ hs) ne =
       | false ↦ λ e. ap (λ l. cond (h.waiting.id == id) (h ∷ l) l) rest
     ]) refl
 
-posts_one : (id i : ℕ) (w : World) (h : Holding) (point : ℕ) → held_with w i ≡ Some h → IsWorld w → IsDecidedAt w (Some h.floor) point
-    → Effect id w (posts (lets_go w h.waiting.id) h.waiting point).0 (posts (lets_go w h.waiting.id) h.waiting point).1
-posts_one id i w h point e k decided =
+no-parts : (xs ys : Found) → xs ++ ys ≡ [] → ys ≡ []
+no-parts [] ys h = h
+no-parts (x ∷ xs) ys h = absurd (cc)
+
+leaves-effect : (id : ℕ) (w : World) {step : Step} {f : Waiting} {floor : Option ℕ} {held : List Holding} {waiting : List Waiting} {point : ℕ}
+    → Leaves w step f floor held waiting point → IsWorld w → let v = record w { held = held; waiting = waiting } in Effect id w (posts v f point).0 (posts v f point).1
+leaves-effect id w (by_serve f later is_first) k =
+    posts-effect id w (record w { waiting = later }) f None w.published refl refl refl refl
+    (λ mine.
+    let is : found id w.held w.waiting ≡ held_found id w.held ++ (f, None) ∷ waiting_found id later =
+    ap (found id w.held) is_first ∙ ap (λ b. held_found id w.held ++ map wait_entry (cond b (f ∷ filter (λ g. g.id == id) later) (filter (λ g. g.id == id) later))) mine in
+    let rest = alone id w (held_found id w.held) (waiting_found id later) (f, None) k is in
+    (is ∙ (λ i. rest.0 i ++ (f, None) ∷ rest.1 i), λ i. rest.0 i ++ rest.1 i))
+    (λ other. sym (ap (found id w.held) is_first ∙ ap (λ b. held_found id w.held ++ map wait_entry (cond b (f ∷ filter (λ g. g.id == id) later) (filter (λ g. g.id == id) later))) other))
+    refl
+leaves-effect id w (by_post i named h point e names decided) k =
     posts-effect id w (lets_go w h.waiting.id) h.waiting (Some h.floor) point refl refl refl refl
     (λ mine.
     let own : h.waiting.id ≡ id = eqb-true h.waiting.id id mine in
@@ -514,43 +486,21 @@ posts_one id i w h point e k decided =
           (ap (λ j. filter (λ (g : Holding). g.waiting.id == id) (filter (λ g. not (g.waiting.id == j)) w.held)) own ∙ others-none id w.held) ∙ none,
     ))
     (λ other. ap (λ (l : List Holding). map hold_entry l ++ waiting_found id w.waiting) (others-stay id h.waiting.id w.held other))
-    decided
-  where
-    no-parts : (xs ys : Found) → xs ++ ys ≡ [] → ys ≡ []
-    no-parts [] ys h = h
-    no-parts (x ∷ xs) ys h = absurd (cc)
+    (decided (find-each (λ (g : Holding). has nat_cmp w.counts g.floor ≡ true) (λ g. g.waiting.id == i) w.held h (recursion_from_All _ w.held k.frames.floors) e))
 
-posts_held-effect : (id i : ℕ) (w : World) (h : Holding) (point : Option ℕ) → held_with w i ≡ Some h → IsWorld w → Effect id w (posts_held w h point).0 (posts_held w h point).1
-posts_held-effect id i w h None e k =
-    let floor = find-each (λ (g : Holding). has nat_cmp w.counts g.floor ≡ true) (λ g. g.waiting.id == i) w.held h (recursion_from_All _ w.held k.frames.floors) e in
-    posts_one id i w h h.floor e k (floor, omega arith)
-posts_held-effect id i w h (Some point) e k =
-    (elim (is_point w h point) as (λ b. is_point w h point ≡ b → Effect id w (cond {A = Stepped} b (posts (lets_go w h.waiting.id) h.waiting point) (refused w NoSuchPoint)).0
-    (cond {A = Stepped} b (posts (lets_go w h.waiting.id) h.waiting point) (refused w NoSuchPoint)).1) [
-      | true ↦ λ is. let parts = and_parts (has nat_cmp w.counts point) (nat_le h.floor point) is in posts_one id i w h point e k (parts.0, leb-true h.floor point parts.1)
-      | false ↦ λ is. quiet id w w _ (alike w) refl
-    ]) refl
+-- Each step.
 
-posts_at-effect : (id i : ℕ) (w : World) (o : Option Holding) (point : Option ℕ) → held_with w i ≡ o → IsWorld w → Effect id w (posts_at w o point).0 (posts_at w o point).1
-posts_at-effect id i w None point e k = quiet id w w _ (alike w) refl
-posts_at-effect id i w (Some h) point e k = posts_held-effect id i w h point e k
-
--- The other steps.
-
-ends-effect : (id : ℕ) (w : World) (step : Step) {y : Stepped} → Ends w step y → Effect id w y.0 y.1
-ends-effect id w step (ends_refused why) = quiet id w w _ (alike w) refl
-ends-effect id w step (ends_done chips stands counts moment) =
-    quiet id w (record w { chips = chips }) _ (record { setup = refl; next = refl; published = refl; held = refl; waiting = refl }) refl
-ends-effect id w step (ends_answered chips e stands counts now) =
+ends-effect : (id : ℕ) (w : World) {step : Step} {y : Stepped} → Ends w step y → IsWorld w → Effect id w y.0 y.1
+ends-effect id w (ends_refused why) k = quiet id w w _ (alike w) refl
+ends-effect id w (ends_unread port bytes why is) k = record { setup = refl; next = omega arith; published = inl refl; fate = unread-fate id w why k }
+ends-effect id w (ends_entered port bytes n) k = record { setup = refl; next = omega arith; published = inl refl; fate = entry-fate id w port bytes n k }
+ends-effect id w (ends_held f later is) k = holds-effect id w f later is k
+ends-effect id w (ends_sent f held waiting point leaves) k = leaves-effect id w leaves k
+ends-effect id w (ends_applied dom c d at is) k = quiet id w (with_chip w (applies c d)) _ (record { setup = refl; next = refl; published = refl; held = refl; waiting = refl }) refl
+ends-effect id w (ends_idle dom) k = quiet id w w _ (alike w) refl
+ends-effect id w (ends_answered chips e by) k =
     answers id w (record w { chips = chips }) (reacts w e) (record { setup = refl; next = refl; published = refl; held = refl; waiting = refl })
-
-does-effect : (id : ℕ) (w : World) (step : Step) → IsWorld w → Effect id w (does w step).0 (does w step).1
-does-effect id w (Rx port bytes) k = enters-effect id w port bytes (frame bytes) k
-does-effect id w Serve k = serves-effect id w w.waiting refl k
-does-effect id w Hold k = holds-effect id w w.waiting refl k
-does-effect id w (Post i point) k = posts_at-effect id i w (held_with w i) point refl k
-does-effect id w Publish k = record { setup = refl; next = omega arith; published = inr refl; fate = idle refl refl }
-does-effect id w step k = ends-effect id w step (does-ends w step)
+ends-effect id w ends_published k = record { setup = refl; next = omega arith; published = inr refl; fate = idle refl refl }
 
 -- the count of steps is no matter
 same-fate : (id n : ℕ) (w v : World) (told : List Line) → Fate id (record w { steps = n }) v told → Fate id w v told
@@ -565,7 +515,8 @@ same-fate id n w v told (gone f o point was is decided says) = gone f o point wa
 
 pub step-effect : (id : ℕ) (w : World) (step : Step) → IsWorld w → Effect id w (world_step w step).0 (world_step w step).1
 step-effect id w step k =
-    let e = does-effect id (record w { steps = w.steps + 1 }) step (counted-world w k) in
+    let u = record w { steps = w.steps + 1 } in
+    let e = ends-effect id u (does-ends u step) (counted-world w k) in
     record { setup = e.setup; next = e.next; published = e.published; fate = same-fate id (w.steps + 1) w (world_step w step).0 (world_step w step).1 e.fate }
 
 -- one entry alone is itself

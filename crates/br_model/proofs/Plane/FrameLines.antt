@@ -38,7 +38,7 @@ use Rattle.br_model.specs.Theorems.Invariants.{IsWorld}
 use Rattle.br_model.specs.Wire.Frames.{frame}
 use Rattle.br_model.proofs.Plane.Growing.{step-grows}
 use Rattle.br_model.proofs.Plane.Applied.{run-setup, run-world}
-use Rattle.br_model.proofs.Plane.Fates.{Fate, idle, entered, taken, gone, lines_of-append, lines-same, found-push, found-free, found-taken, goes_on-joins, Effect, step-effect, same-entry}
+use Rattle.br_model.proofs.Plane.Fates.{Fate, idle, entered, taken, gone, lines_of-append, lines-same, found-push, found-free, found-taken, goes_on-silent, Effect, step-effect, same-entry}
 use Rattle.br_model.proofs.Plane.Kept.{Ends, ends_refused, ends_done, ends_answered, does-ends, first-world, step-world}
 use Rattle.br_model.proofs.Data.Lists.{has-up-to, last-has, up-to-last}
 use Rattle.br_model.proofs.Plane.Stays.{step-counts}
@@ -213,7 +213,7 @@ module _ (w : World) (k : IsWorld w) (port : ℕ) (bytes : List ℕ) (head : Hea
 
   enters-software : Entered w [] (λ v l. Comes (may_wait w) w.published v f l) (waits numbered f)
   enters-software =
-      let j = goes_on-joins Trap w.next numbered f in
+      let j = goes_on-silent Trap w.next numbered f in
       record { next = omega (arith, j.next); published = omega (arith, j.published); told = (lines_of w.next (waits numbered f).1, (refl, comes w k w.chips f refl)) }
 
   module _ (chip : Chip) where
@@ -243,7 +243,7 @@ module _ (w : World) (k : IsWorld w) (port : ℕ) (bytes : List ℕ) (head : Hea
 
     enters-chip : (class : Class) → Entered w (first class) (λ v l. Follows class w v f l) (enters_chip numbered chip class f)
     enters-chip class =
-        let j = goes_on-joins class w.next noted (marked class) in
+        let j = goes_on-silent class w.next noted (marked class) in
         let end = (goes_on class noted (marked class)).1 in
         record {
           next = omega (arith, j.next);
@@ -376,10 +376,10 @@ enters-next v port bytes (Ok head) = by (chip_of u (domain_of u.setup.domains po
     g = entering v port bytes head
 
     by : (o : Option Chip) → (enters_by u o g).0.next ≡ v.next + 1
-    by None = (goes_on-joins Trap v.next u g).next
+    by None = (goes_on-silent Trap v.next u g).next
     by (Some d) =
         let class = class_of u d g in
-        (goes_on-joins class v.next (with_chip u (notes (table_of_chip u d) port head d)) (record g { mark = mark_of class u.setup.domains port })).next
+        (goes_on-silent class v.next (with_chip u (notes (table_of_chip u d) port head d)) (record g { mark = mark_of class u.setup.domains port })).next
 
 -- a frame enters by the step, which takes an id
 abbrev IsEntry : World → Step → Type 0

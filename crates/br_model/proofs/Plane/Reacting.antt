@@ -1,28 +1,19 @@
 -- What each reaction keeps of the history and the control state, each run keeps.
-use Rattle.std.proofs.Common.{◌≡◌, ℕ, ◌+◌, List, [], ◌∷◌, ◌++◌, Option, None, Some, refl}
+use Rattle.std.proofs.Common.{◌≡◌, ◌+◌, List, [], ◌∷◌, ◌++◌, refl}
 use Rattle.std.specs.List.{fold}
 use Rattle.std.specs.declared.result.Result.{Result}
 use Rattle.std.specs.declared.result.Result.TheVariants.{Ok, Err}
 use Rattle.br_model.specs.declared.change.Change.{Change}
-use Rattle.br_model.specs.declared.frame.FrameFault.{FrameFault}
-use Rattle.br_model.specs.declared.frame.Head.{Head}
 use Rattle.br_model.specs.declared.steps.Event.{Event}
 use Rattle.br_model.specs.declared.steps.Event.TheVariants as events
 use Rattle.br_model.specs.declared.steps.Refusal.{Refusal}
 use Rattle.br_model.specs.declared.steps.Step.{Step}
-use Rattle.br_model.specs.declared.steps.Step.TheVariants.{Rx, Serve, Hold, Post, Publish}
 use Rattle.br_model.specs.Control.Control.{Control, first_control}
 use Rattle.br_model.specs.Control.Reaction.{Reaction}
-use Rattle.br_model.specs.Forward.Shares.{mark_of}
-use Rattle.br_model.specs.Plane.Chip.{Chip, notes}
-use Rattle.br_model.specs.Plane.Entering.{waits, enters_as, class_of, enters_by, chip_of}
+use Rattle.br_model.specs.Plane.Chip.{Chip}
 use Rattle.br_model.specs.Plane.Runs.{run, then_step}
-use Rattle.br_model.specs.Plane.Serving.{posts, serves, holds, held_with, lets_go}
-use Rattle.br_model.specs.Plane.Steps.{does}
-use Rattle.br_model.specs.Plane.World.{World, Waiting, Stepped, first_world, table_of_chip, answered, reacts, with_chip}
-use Rattle.br_model.specs.Table.Domains.{domain_of}
+use Rattle.br_model.specs.Plane.World.{World, Stepped, first_world, answered, reacts}
 use Rattle.br_model.specs.Table.Setup.{Setup}
-use Rattle.br_model.specs.Wire.Frames.{frame}
 use Rattle.br_model.proofs.Plane.StepEnds.{Ends, does-ends, ends_answered, ends_applied, ends_entered, ends_held, ends_idle, ends_published, ends_refused, ends_sent, ends_unread}
 
 module _
