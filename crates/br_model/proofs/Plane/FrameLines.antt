@@ -12,18 +12,18 @@ use Rattle.br_model.specs.declared.frame.Class.TheVariants.{Drop, Trap, Copy, Fo
 use Rattle.br_model.specs.declared.frame.FrameFault.{FrameFault}
 use Rattle.br_model.specs.declared.frame.Head.{Head}
 use Rattle.br_model.specs.declared.steps.Step.{Step}
-use Rattle.br_model.specs.declared.steps.Step.TheVariants.{Rx, Serve, Hold, Post, Publish}
+use Rattle.br_model.specs.declared.steps.Step.TheVariants.{Rx}
 use Rattle.br_model.specs.declared.transcript.Line.{Line}
 use Rattle.br_model.specs.declared.transcript.Line.TheVariants as lines
 use Rattle.br_model.specs.Data.Maps.{has}
 use Rattle.br_model.specs.Forward.Shares.{chip_out, mark_of, soft_out}
 use Rattle.br_model.specs.Plane.Chip.{Chip, notes}
-use Rattle.br_model.specs.Plane.Serving.{posts, serves, holds, held_with, lets_go, is_point, posts_at}
+use Rattle.br_model.specs.Plane.Serving.{is_point}
 use Rattle.br_model.specs.Plane.Entering.{waits, goes_on, enters_chip, enters_as, class_of, enters_by, chip_of}
 use Rattle.br_model.specs.Plane.Runs.{run, then_step}
 use Rattle.br_model.specs.Plane.Sending.{Sent}
 use Rattle.br_model.specs.Plane.Steps.{world_step}
-use Rattle.br_model.specs.Plane.World.{World, Waiting, Holding, Stepped, first_world, sent, table_of_chip, with_chip, answered, reacts}
+use Rattle.br_model.specs.Plane.World.{World, Waiting, Stepped, first_world, sent, table_of_chip, with_chip, answered, reacts}
 use Rattle.br_model.specs.Control.Reaction.{Reaction}
 use Rattle.br_model.specs.declared.steps.Event.TheVariants as events
 use Rattle.br_model.specs.declared.steps.Refusal.{Refusal}
@@ -39,10 +39,10 @@ use Rattle.br_model.specs.Wire.Frames.{frame}
 use Rattle.br_model.proofs.Plane.Growing.{step-grows}
 use Rattle.br_model.proofs.Plane.Applied.{run-setup, run-world}
 use Rattle.br_model.proofs.Plane.Fates.{Fate, idle, entered, taken, gone, lines_of-append, lines-same, found-push, found-free, found-taken, goes_on-silent, Effect, step-effect, same-entry}
-use Rattle.br_model.proofs.Plane.Kept.{Ends, ends_refused, ends_done, ends_answered, does-ends, first-world, step-world}
+use Rattle.br_model.proofs.Plane.Kept.{first-world, step-world}
+use Rattle.br_model.proofs.Plane.StepEnds.{Ends, does-ends, ends_answered, ends_applied, ends_entered, ends_held, ends_idle, ends_published, ends_refused, ends_sent, ends_unread}
 use Rattle.br_model.proofs.Data.Lists.{has-up-to, last-has, up-to-last}
 use Rattle.br_model.proofs.Plane.Stays.{step-counts}
-use Rattle.br_model.proofs.Plane.Waiting.{posts_at-either}
 use Rattle.br_model.proofs.Plane.Worlds.{run-append}
 
 up-to-published : (w : World) (n : ℕ) → IsWorld w → has nat_cmp w.counts n ≡ true → n ≤ w.published
@@ -346,52 +346,24 @@ answered-next : (before after : World) (answer : Result Reaction Refusal) → af
 answered-next before after (Err why) same = refl
 answered-next before after (Ok r) same = same
 
-posts-next : (v : World) (g : Waiting) (point : ℕ) → (posts v g point).0.next ≡ v.next
-posts-next v g point = answered-next v v (reacts v (events.Sight g.port g.bytes g.head)) refl
-
-serves-next : (v : World) (fs : List Waiting) → (serves v fs).0.next ≡ v.next
-serves-next v [] = refl
-serves-next v (g ∷ later) = posts-next (record v { waiting = later }) g v.published
-
-holds-next : (v : World) (fs : List Waiting) → (holds v fs).0.next ≡ v.next
-holds-next v [] = refl
-holds-next v (g ∷ later) = refl
-
-posts_at-next : (v : World) (o : Option Holding) (point : Option ℕ) → (posts_at v o point).0.next ≡ v.next
-posts_at-next v o point = posts_at-either (λ s. s.0.next ≡ v.next) v (λ why. refl) (λ h p. posts-next (lets_go v h.waiting.id) h.waiting p) o point
-
-ends-next : (v : World) (step : Step) {y : Stepped} → Ends v step y → y.0.next ≡ v.next
-ends-next v step (ends_refused why) = refl
-ends-next v step (ends_done chips stands counts moment) = refl
-ends-next v step (ends_answered chips e stands counts now) = answered-next v (record v { chips = chips }) (reacts v e) refl
-
-enters-next : (v : World) (port : ℕ) (bytes : List ℕ) (r : Result Head FrameFault) → (enters_as (record v { next = v.next + 1 }) v.next port bytes r).0.next ≡ v.next + 1
-enters-next v port bytes (Err why) = refl
-enters-next v port bytes (Ok head) = by (chip_of u (domain_of u.setup.domains port))
-  where
-    u : World
-    u = record v { next = v.next + 1 }
-
-    g : Waiting
-    g = entering v port bytes head
-
-    by : (o : Option Chip) → (enters_by u o g).0.next ≡ v.next + 1
-    by None = (goes_on-silent Trap v.next u g).next
-    by (Some d) =
-        let class = class_of u d g in
-        (goes_on-silent class v.next (with_chip u (notes (table_of_chip u d) port head d)) (record g { mark = mark_of class u.setup.domains port })).next
-
 -- a frame enters by the step, which takes an id
-abbrev IsEntry : World → Step → Type 0
-IsEntry w step = (port : ℕ) × ((bytes : List ℕ) × ((step ≡ Rx port bytes) × ((world_step w step).0.next ≡ w.next + 1)))
+abbrev IsEntry : World → Step → World → Type 0
+IsEntry w step v = (port : ℕ) × ((bytes : List ℕ) × ((step ≡ Rx port bytes) × (v.next ≡ w.next + 1)))
 
-takes-id : (w : World) (step : Step) → ((world_step w step).0.next ≡ w.next) ⊎ IsEntry w step
-takes-id w (Rx port bytes) = inr (port, (bytes, (refl, enters-next (record w { steps = w.steps + 1 }) port bytes (frame bytes))))
-takes-id w Serve = inl (serves-next (record w { steps = w.steps + 1 }) w.waiting)
-takes-id w Hold = inl (holds-next (record w { steps = w.steps + 1 }) w.waiting)
-takes-id w (Post id point) = inl (posts_at-next (record w { steps = w.steps + 1 }) (held_with w id) point)
-takes-id w Publish = inl refl
-takes-id w step = let v = record w { steps = w.steps + 1 } in inl (ends-next v step (does-ends v step))
+ends-next : (w : World) {step : Step} {y : Stepped} → Ends w step y → (y.0.next ≡ w.next) ⊎ IsEntry w step y.0
+ends-next w (ends_refused why) = inl refl
+ends-next w (ends_unread port bytes why is) = inr (port, (bytes, (refl, refl)))
+ends-next w (ends_entered port bytes n) = inr (port, (bytes, (refl, refl)))
+ends-next w (ends_held f later is) = inl refl
+ends-next w (ends_sent f held waiting point leaves) =
+    let v = record w { held = held; waiting = waiting } in inl (answered-next v v (reacts v (events.Sight f.port f.bytes f.head)) refl)
+ends-next w (ends_applied dom c d at is) = inl refl
+ends-next w (ends_idle dom) = inl refl
+ends-next w (ends_answered chips e by) = inl (answered-next w (record w { chips = chips }) (reacts w e) refl)
+ends-next w ends_published = inl refl
+
+takes-id : (w : World) (step : Step) → ((world_step w step).0.next ≡ w.next) ⊎ IsEntry w step (world_step w step).0
+takes-id w step = let u = record w { steps = w.steps + 1 } in ends-next u (does-ends u step)
 
 -- where among the steps the frame with this id enters
 abbrev EntryAmong : Stepped → List Step → ℕ → Type 0
@@ -408,7 +380,7 @@ entry-among x (step ∷ steps) id le less =
     (step ∷ e.0, (e.1.0, (e.1.1.0, (e.1.1.1.0, (ap (λ (l : List Step). step ∷ l) e.1.1.1.1.0, e.1.1.1.1.1))))))
     (cases_lt id (world_step x.0 step).0.next)
   where
-    now : id < (world_step x.0 step).0.next → ((world_step x.0 step).0.next ≡ x.0.next) ⊎ IsEntry x.0 step → EntryAmong x (step ∷ steps) id
+    now : id < (world_step x.0 step).0.next → ((world_step x.0 step).0.next ≡ x.0.next) ⊎ IsEntry x.0 step (world_step x.0 step).0 → EntryAmong x (step ∷ steps) id
     now here (inl same) = absurd (omega (arith, same, here, le))
     now here (inr entry) = ([], (entry.0, (entry.1.0, (steps, (ap (λ (s : Step). s ∷ steps) entry.1.1.0, omega (arith, entry.1.1.1, here, le))))))
 
