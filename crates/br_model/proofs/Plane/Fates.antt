@@ -287,8 +287,8 @@ pub record GoesOn (id : ℕ) (u : World) (y : Stepped) : Type 0 where
 
 pub goes_on-silent : (c : Class) (id : ℕ) (u : World) (f : Waiting) → GoesOn id u (goes_on c u f)
 goes_on-silent c id u f =
-    let nothing = record { setup = refl; next = refl; published = refl; silent = refl } in
-    goes_on-either (GoesOn id u) c u f nothing (waits-either (GoesOn id u) u f nothing nothing)
+    goes_on-either (GoesOn id u) c u f (record { setup = refl; next = refl; published = refl; silent = refl })
+    (waits-either (GoesOn id u) u f (record { setup = refl; next = refl; published = refl; silent = refl }) (record { setup = refl; next = refl; published = refl; silent = refl }))
 
 -- what the first lines of a frame that enters tell, and where it goes on to software after them
 record Shares (w : World) (f : Waiting) (first : List Line) (goes_on : Bool) : Type 0 where
