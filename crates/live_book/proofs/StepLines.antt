@@ -12,32 +12,28 @@ use Rattle.lemmas.proofs.Tests.{or-false}
 use Rattle.br_model.specs.declared.bpdu.BpduMsg.{BpduMsg}
 use Rattle.br_model.specs.declared.change.Change.{Change}
 use Rattle.br_model.specs.declared.frame.Class.{Class}
-use Rattle.br_model.specs.declared.frame.Class.TheVariants.{Drop, Trap, Copy, Forward}
-use Rattle.br_model.specs.declared.frame.FrameFault.{FrameFault}
 use Rattle.br_model.specs.declared.frame.Head.{Head}
 use Rattle.br_model.specs.declared.steps.Event.TheVariants as events
 use Rattle.br_model.specs.declared.steps.Refusal.{Refusal}
 use Rattle.br_model.specs.declared.steps.Refusal.TheVariants.{HistoryFull, NothingReported}
 use Rattle.br_model.specs.declared.steps.Step.{Step}
-use Rattle.br_model.specs.declared.steps.Step.TheVariants.{Rx, Serve, Hold, Post, Report, Publish}
+use Rattle.br_model.specs.declared.steps.Step.TheVariants.{Report}
 use Rattle.br_model.specs.declared.transcript.Line.{Line}
 use Rattle.br_model.specs.declared.transcript.Line.TheVariants as lines
 use Rattle.br_model.specs.Control.Learning.{Triple}
 use Rattle.br_model.specs.Control.Reaction.{Reaction}
 use Rattle.br_model.specs.Control.Refusals.{refusal_number}
-use Rattle.br_model.specs.Forward.Shares.{chip_out, mark_of, soft_out}
-use Rattle.br_model.specs.Plane.Chip.{Chip, notes}
+use Rattle.br_model.specs.Forward.Shares.{chip_out, soft_out}
+use Rattle.br_model.specs.Plane.Chip.{applies, Chip}
 use Rattle.br_model.specs.Plane.ChipSteps.{tells, reports}
-use Rattle.br_model.specs.Plane.Entering.{chip_of, class_of, enters_as, enters_by, goes_on, waits}
-use Rattle.br_model.specs.Plane.Serving.{held_with, holds, lets_go, posts, posts_at, serves}
+use Rattle.br_model.specs.Plane.Entering.{class_of}
+use Rattle.br_model.specs.Plane.Serving.{holds, posts}
 use Rattle.br_model.specs.Plane.Steps.{publishes, world_step}
 use Rattle.br_model.specs.Plane.World.{World, Waiting, Holding, Stepped, accepts, after_lines, answered, chip_at, control_lines, done, reacts, refused, sent, table_at, table_of_chip, with_chip}
 use Rattle.br_model.specs.Program.LiveRun.{is_report_at, says_full}
-use Rattle.br_model.specs.Table.Domains.{domain_of}
-use Rattle.br_model.specs.Table.Limits.{most_waiting}
-use Rattle.br_model.specs.Wire.Frames.{frame}
-use Rattle.br_model.proofs.Plane.Kept.{Ends, ends_refused, ends_done, ends_answered, does-ends}
-use Rattle.br_model.proofs.Plane.Waiting.{posts_at-either}
+use Rattle.br_model.specs.Theorems.FrameLines.{entering}
+use Rattle.br_model.proofs.Plane.StepEnds.{Ends, does-ends, ends_answered, ends_applied, ends_entered, ends_held, ends_idle, ends_published, ends_refused, ends_sent, ends_unread}
+use Rattle.br_model.proofs.Plane.StepEnds.{by_chip, by_software, Enters, finds_room, Joins, overruns, passes_by}
 use Rattle.live_book.specs.Reading.{is_published, refused_after}
 
 -- lines that tell of no step
@@ -117,33 +113,19 @@ by_answered w v (Ok r) steps history =
       kept = λ is_report b none. t.kept is_report b (ap is_report steps ∙ none);
     }
 
-by_waits : (w : World) (f : Waiting) → Told w.steps w.history (waits w f)
-by_waits w f =
-    elim (nat_lt (length w.waiting + length w.held) most_waiting) as
-    (λ b. Told w.steps w.history (cond {A = Stepped} b (record w { waiting = w.waiting ++ f ∷ [] }, []) (w, lines.Overrun f.id ∷ []))) [
-      | true ↦ silent w.steps w.history (record w { waiting = w.waiting ++ f ∷ [] }, []) refl refl nothing
-      | false ↦ silent w.steps w.history (w, lines.Overrun f.id ∷ []) refl refl (record { all = λ may. refl; same = λ is_report b. refl })
-    ]
-
-by_goes_on : (c : Class) (w : World) (f : Waiting) → Told w.steps w.history (goes_on c w f)
-by_goes_on Drop w f = silent w.steps w.history (w, []) refl refl nothing
-by_goes_on Trap w f = by_waits w f
-by_goes_on Copy w f = by_waits w f
-by_goes_on Forward w f = silent w.steps w.history (w, []) refl refl nothing
-
 decided : (id changes applied : ℕ) (class : Class) (out : List (ℕ × List ℕ)) → Quiet (lines.Chip id changes applied class ∷ sent id out)
 decided id changes applied class out = let q = quiet_sent id out in record { all = q.all; same = q.same }
 
-by_enters_by : (w : World) (f : Waiting) (o : Option Chip) → Told w.steps w.history (enters_by w o f)
-by_enters_by w f None = by_waits w f
-by_enters_by w f (Some c) =
-    behind w.steps w.history _ _ (decided f.id (length w.history) c.count (class_of w c f) (chip_out w.setup.domains (table_of_chip w c) f.port f.bytes f.head))
-    (by_goes_on (class_of w c f) (with_chip w (notes (table_of_chip w c) f.port f.head c)) (record f { mark = mark_of (class_of w c f) w.setup.domains f.port }))
+quiet_first : {w : World} {port : ℕ} {bytes : List ℕ} {head : Head} {chips : List Chip} {f : Waiting} {first : List Line} {b : Bool}
+    → Enters w port bytes head chips f first b → Quiet first
+quiet_first (by_software on) = nothing
+quiet_first {w} {port} {bytes} {head} (by_chip c on) =
+    decided w.next (length w.history) c.count (class_of w c (entering w port bytes head)) (chip_out w.setup.domains (table_of_chip w c) port bytes head)
 
-by_enters : (w : World) (id port : ℕ) (bytes : List ℕ) (r : Result Head FrameFault) → Told w.steps w.history (enters_as w id port bytes r)
-by_enters w id port bytes (Err why) = silent w.steps w.history (w, lines.Unread id why ∷ []) refl refl (record { all = λ may. refl; same = λ is_report b. refl })
-by_enters w id port bytes (Ok head) =
-    by_enters_by w (record { id = id; port = port; bytes = bytes; head = head; mark = None }) (chip_of w (domain_of w.setup.domains port))
+quiet_last : {held : List Holding} {waiting after : List Waiting} {f : Waiting} {b : Bool} {last : List Line} → Joins held waiting f b after last → Quiet last
+quiet_last passes_by = nothing
+quiet_last (finds_room room) = nothing
+quiet_last (overruns full) = record { all = λ may. refl; same = λ is_report b. refl }
 
 by_posts : (w : World) (f : Waiting) (point : ℕ) → Told w.steps w.history (posts w f point)
 by_posts w f point =
@@ -151,33 +133,25 @@ by_posts w f point =
     behind w.steps w.history (lines.Soft f.id point ∷ sent f.id (soft_out w.setup.domains (table_at w point) f.port f.bytes f.head f.mark)) _ (record { all = q.all; same = q.same })
     (by_answered w w (reacts w (events.Sight f.port f.bytes f.head)) refl refl)
 
-by_serves : (w : World) (fs : List Waiting) → Told w.steps w.history (serves w fs)
-by_serves w [] = by_refused w _
-by_serves w (f ∷ later) = by_posts (record w { waiting = later }) f w.published
-
-by_holds : (w : World) (fs : List Waiting) → Told w.steps w.history (holds w fs)
-by_holds w [] = by_refused w _
-by_holds w (f ∷ later) = silent w.steps w.history (holds w (f ∷ later)) refl refl (record { all = λ may. refl; same = λ is_report b. refl })
-
-by_posts_at : (w : World) (o : Option Holding) (point : Option ℕ) → Told w.steps w.history (posts_at w o point)
-by_posts_at w o point = posts_at-either (Told w.steps w.history) w (by_refused w) (λ h p. by_posts (lets_go w h.waiting.id) h.waiting p) o point
-
--- where it is of no frame and publishes nothing
-ends_told : (w : World) (s : Step) {y : Stepped} → Ends w s y → Told w.steps w.history y
-ends_told w s (ends_refused why) = by_refused w why
-ends_told w s (ends_done chips stands counts moment) = by_done (record w { chips = chips })
-ends_told w s (ends_answered chips e stands counts now) = by_answered w (record w { chips = chips }) (reacts w e) refl refl
+ends_told : (w : World) {s : Step} {y : Stepped} → Ends w s y → Told w.steps w.history y
+ends_told w (ends_refused why) = by_refused w why
+ends_told w (ends_unread port bytes why is) =
+    silent w.steps w.history (record w { next = w.next + 1 }, lines.Unread w.next why ∷ []) refl refl (record { all = λ may. refl; same = λ is_report b. refl })
+ends_told w (ends_entered port bytes n) =
+    let v = record w { next = w.next + 1; chips = n.chips; waiting = n.waiting } in
+    behind w.steps w.history n.first (v, n.last) (quiet_first n.enters) (silent w.steps w.history (v, n.last) refl refl (quiet_last n.joins))
+ends_told w (ends_held f later is) = silent w.steps w.history (holds w (f ∷ later)) refl refl (record { all = λ may. refl; same = λ is_report b. refl })
+ends_told w (ends_sent f held waiting point leaves) = by_posts (record w { held = held; waiting = waiting }) f point
+ends_told w (ends_applied dom c d at is) = by_done (with_chip w (applies c d))
+ends_told w (ends_idle dom) = by_done w
+ends_told w (ends_answered chips e answers) = by_answered w (record w { chips = chips }) (reacts w e) refl refl
+ends_told w ends_published = by_done (publishes w (length w.history))
 
 abbrev counted : World → World
 counted w = record w { steps = w.steps + 1 }
 
 pub step_told : (w : World) (s : Step) → Told (w.steps + 1) w.history (world_step w s)
-step_told w (Rx port bytes) = by_enters (record w { steps = w.steps + 1; next = w.next + 1 }) w.next port bytes (frame bytes)
-step_told w Serve = by_serves (counted w) w.waiting
-step_told w Hold = by_holds (counted w) w.waiting
-step_told w (Post id point) = by_posts_at (counted w) (held_with w id) point
-step_told w Publish = by_done (publishes (counted w) (length w.history))
-step_told w s = ends_told (counted w) s (does-ends (counted w) s)
+step_told w s = ends_told (counted w) (does-ends (counted w) s)
 
 -- A report's lines tell how it ended.
 

@@ -8,7 +8,6 @@ use Rattle.br_model.specs.declared.change.Change.{Change}
 use Rattle.br_model.specs.declared.change.Change.TheVariants as changes
 use Rattle.br_model.specs.declared.frame.Head.{Head}
 use Rattle.br_model.specs.declared.steps.Command.{Command}
-use Rattle.br_model.specs.declared.steps.Command.TheVariants as commands
 use Rattle.br_model.specs.declared.steps.Event.{Event}
 use Rattle.br_model.specs.declared.steps.Event.TheVariants.{Cmd, Moment, Sight, Told, Forget}
 use Rattle.br_model.specs.declared.steps.Refusal.{Refusal}
@@ -32,26 +31,16 @@ use Rattle.br_model.specs.Table.Table.{apply, table}
 use Rattle.br_model.specs.Tree.Step.{tree_step, sent}
 use Rattle.std.proofs.Common.{length}
 use Rattle.std.proofs.Math.Bool.{or-true}
-use Rattle.br_model.specs.declared.frame.Class.{Class}
-use Rattle.br_model.specs.declared.frame.Class.TheVariants.{Drop, Trap, Copy, Forward}
-use Rattle.br_model.specs.declared.frame.FrameFault.{FrameFault}
 use Rattle.br_model.specs.declared.steps.Step.{Step}
-use Rattle.br_model.specs.declared.steps.Step.TheVariants as steps
 use Rattle.br_model.specs.declared.transcript.Line.{Line}
-use Rattle.br_model.specs.declared.transcript.Line.TheVariants.{Done, Overrun}
-use Rattle.br_model.specs.Forward.Shares.{mark_of}
-use Rattle.br_model.specs.Plane.Chip.{notes, Chip}
-use Rattle.br_model.specs.Plane.Entering.{waits, goes_on, enters_as, class_of, enters_by, chip_of}
-use Rattle.br_model.specs.Plane.Serving.{posts, serves, holds, held_with, lets_go, posts_at}
+use Rattle.br_model.specs.declared.transcript.Line.TheVariants.{Done}
+use Rattle.br_model.specs.Plane.Serving.{posts, holds, lets_go}
 use Rattle.br_model.specs.Plane.Steps.{world_step}
 use Rattle.br_model.specs.Plane.Traits.{traits}
-use Rattle.br_model.specs.Plane.World.{World, Waiting, Holding, Stepped, table_of_chip, answered, control_lines, reacts, refused, with_chip}
-use Rattle.br_model.specs.Table.Domains.{domain_of}
-use Rattle.br_model.specs.Table.Limits.{most_waiting}
-use Rattle.br_model.specs.Wire.Frames.{frame}
+use Rattle.br_model.specs.Plane.World.{World, Waiting, Stepped, answered, control_lines, reacts, refused}
 use Rattle.mcast_querier.specs.Runs.{is_done}
-use Rattle.br_model.proofs.Plane.Kept.{Ends, ends_refused, ends_done, ends_answered, does-ends, moment_in}
-use Rattle.br_model.proofs.Plane.Waiting.{posts_at-either}
+use Rattle.br_model.proofs.Plane.StepEnds.{Ends, does-ends, ends_answered, ends_applied, ends_entered, ends_held, ends_idle, ends_published, ends_refused, ends_sent, ends_unread}
+use Rattle.br_model.proofs.Plane.StepEnds.{by_command, by_moment, by_post, by_report, by_serve, by_sweep}
 use Rattle.br_model.proofs.Control.ReactionSteps.{IsKept}
 use Rattle.br_model.proofs.Control.SnoopSteps.{snoops-keeps}
 use Rattle.br_model.proofs.Control.Clocks.{sets-now}
@@ -172,43 +161,8 @@ answered-same : (before after : World) (answer : Result Reaction Refusal) → Le
 answered-same before after (Err why) p = refl
 answered-same before after (Ok r) p = p
 
-waits-same : (w : World) (f : Waiting) → (waits w f).0.control.now ≡ w.control.now
-waits-same w f =
-    elim (nat_lt (length w.waiting + length w.held) most_waiting) as
-    (λ b. (cond {A = Stepped} b (record w { waiting = w.waiting ++ f ∷ [] }, []) (w, Overrun f.id ∷ [])).0.control.now ≡ w.control.now) [
-      | true ↦ refl
-      | false ↦ refl
-    ]
-
-goes_on-same : (class : Class) (w : World) (f : Waiting) → (goes_on class w f).0.control.now ≡ w.control.now
-goes_on-same Drop w f = refl
-goes_on-same Trap w f = waits-same w f
-goes_on-same Copy w f = waits-same w f
-goes_on-same Forward w f = refl
-
-enters_by-same : (w : World) (o : Option Chip) (f : Waiting) → (enters_by w o f).0.control.now ≡ w.control.now
-enters_by-same w None f = waits-same w f
-enters_by-same w (Some c) f =
-    goes_on-same (class_of w c f) (with_chip w (notes (table_of_chip w c) f.port f.head c)) (record f { mark = mark_of (class_of w c f) w.setup.domains f.port })
-
-enters_as-same : (w : World) (id port : ℕ) (bytes : List ℕ) (o : Result Head FrameFault) → (enters_as w id port bytes o).0.control.now ≡ w.control.now
-enters_as-same w id port bytes (Err why) = refl
-enters_as-same w id port bytes (Ok head) =
-    enters_by-same w (chip_of w (domain_of w.setup.domains port)) (record { id = id; port = port; bytes = bytes; head = head; mark = None })
-
 posts-same : (w : World) (f : Waiting) (point : ℕ) → (posts w f point).0.control.now ≡ w.control.now
 posts-same w f point = answered-same w w (reacts w (Sight f.port f.bytes f.head)) (react-leaves w.setup w.history w.control (Sight f.port f.bytes f.head))
-
-serves-same : (w : World) (fs : List Waiting) → (serves w fs).0.control.now ≡ w.control.now
-serves-same w [] = refl
-serves-same w (f ∷ later) = posts-same (record w { waiting = later }) f w.published
-
-holds-same : (w : World) (fs : List Waiting) → (holds w fs).0.control.now ≡ w.control.now
-holds-same w [] = refl
-holds-same w (f ∷ later) = refl
-
-posts_at-same : (w : World) (o : Option Holding) (point : Option ℕ) → (posts_at w o point).0.control.now ≡ w.control.now
-posts_at-same w o point = posts_at-either (λ s. s.0.control.now ≡ w.control.now) w (λ why. refl) (λ h p. posts-same (lets_go w h.waiting.id) h.waiting p) o point
 
 -- What is so of the last moment before and after a step that names this one or none, by whether a line says that it was done.
 abbrev pub PassesBy : Option ℕ → Bool → ℕ → ℕ → Type 0
@@ -225,27 +179,25 @@ passes w v moment (Ok r) p on = subst (λ b. PassesBy (Some moment) b w.control.
     is_told : (ls : List Line) → list_any is_done (ls ++ Done v.steps (length r.changes) ∷ []) ≡ true
     is_told ls = list_any-append is_done ls (Done v.steps (length r.changes) ∷ []) ∙ or-true (list_any is_done ls)
 
--- an event is answered
-event-passes : (w v : World) (e : Event) → PassesBy (moment_in e) (list_any is_done (answered w v (reacts w e)).1) w.control.now (answered w v (reacts w e)).0.control.now
-event-passes w v (Moment moment) = passes w v moment (reacts w (Moment moment)) (react-leaves w.setup w.history w.control (Moment moment)) (react-on w.setup w.history w.control moment)
-event-passes w v e = answered-same w v (reacts w e) (react-leaves w.setup w.history w.control e)
-
 -- nothing passes where nothing is done
 none-passes : (o : Option ℕ) (n : ℕ) → PassesBy o false n n
 none-passes None n = refl
 none-passes (Some moment) n = refl
 
-ends-passes : (w : World) (step : Step) {y : Stepped} → Ends w step y → PassesBy (traits step).moment (list_any is_done y.1) w.control.now y.0.control.now
-ends-passes w step (ends_refused why) = none-passes (traits step).moment w.control.now
-ends-passes w step (ends_done chips stands counts moment) = subst (λ (o : Option ℕ). PassesBy o true w.control.now w.control.now) (sym moment) refl
-ends-passes w step (ends_answered chips e stands counts now) =
-    let v = record w { chips = chips } in
-    subst (λ (o : Option ℕ). PassesBy o (list_any is_done (answered w v (reacts w e)).1) w.control.now (answered w v (reacts w e)).0.control.now) now (event-passes w v e)
+ends-passes : (w : World) {step : Step} {y : Stepped} → Ends w step y → PassesBy (traits step).moment (list_any is_done y.1) w.control.now y.0.control.now
+ends-passes w {step} (ends_refused why) = none-passes (traits step).moment w.control.now
+ends-passes w (ends_unread port bytes why is) = refl
+ends-passes w (ends_entered port bytes n) = refl
+ends-passes w (ends_held f later is) = refl
+ends-passes w (ends_sent f held waiting point (by_serve g later is)) = posts-same (record w { waiting = later }) f point
+ends-passes w (ends_sent f held waiting point (by_post id named h at is names decided)) = posts-same (lets_go w h.waiting.id) f point
+ends-passes w (ends_applied dom c d at is) = refl
+ends-passes w (ends_idle dom) = refl
+ends-passes w (ends_answered chips e (by_command c)) = answered-same w w (reacts w e) (react-leaves w.setup w.history w.control e)
+ends-passes w (ends_answered chips e (by_moment moment)) = passes w w moment (reacts w e) (react-leaves w.setup w.history w.control e) (react-on w.setup w.history w.control moment)
+ends-passes w (ends_answered chips e (by_report dom c x later at is)) = answered-same w (record w { chips = chips }) (reacts w e) (react-leaves w.setup w.history w.control e)
+ends-passes w (ends_answered chips e (by_sweep dom c at)) = answered-same w (record w { chips = chips }) (reacts w e) (react-leaves w.setup w.history w.control e)
+ends-passes w ends_published = refl
 
 pub step-passes : (w : World) (step : Step) → PassesBy (traits step).moment (list_any is_done (world_step w step).1) w.control.now (world_step w step).0.control.now
-step-passes w (steps.Rx port bytes) = enters_as-same (record w { steps = w.steps + 1; next = w.next + 1 }) w.next port bytes (frame bytes)
-step-passes w steps.Serve = serves-same (record w { steps = w.steps + 1 }) w.waiting
-step-passes w steps.Hold = holds-same (record w { steps = w.steps + 1 }) w.waiting
-step-passes w (steps.Post id point) = posts_at-same (record w { steps = w.steps + 1 }) (held_with w id) point
-step-passes w steps.Publish = refl
-step-passes w step = let v = record w { steps = w.steps + 1 } in ends-passes v step (does-ends v step)
+step-passes w step = let u = record w { steps = w.steps + 1 } in ends-passes u (does-ends u step)
