@@ -39,9 +39,9 @@ use Rattle.br_model.proofs.Plane.StepEnds.{ends_refused, ends_sent, ends_unread,
 use Rattle.br_model.proofs.Data.Lists.{find-each}
 use Rattle.br_model.proofs.Plane.Shares.{ascends-filter, ascends-leave, times-ascends, times-within}
 use Rattle.br_model.proofs.Plane.Waiting.{goes_on-either, waits-either}
-use Rattle.br_model.specs.Plane.Entering.{waits, goes_on, class_of}
+use Rattle.br_model.specs.Plane.Entering.{goes_on, class_of}
 use Rattle.br_model.specs.Plane.Serving.{posts, holds, lets_go}
-use Rattle.br_model.specs.Plane.Steps.{does, world_step}
+use Rattle.br_model.specs.Plane.Steps.{world_step}
 use Rattle.br_model.specs.declared.steps.Step.{Step}
 use Rattle.br_model.specs.Theorems.Invariants.{frames_of, IsFrame, IsWorld}
 use Rattle.br_model.specs.Plane.LineTraits.{line_traits}

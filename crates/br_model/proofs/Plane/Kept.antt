@@ -35,12 +35,11 @@ use Rattle.br_model.specs.Control.Reaction.{Reaction}
 use Rattle.br_model.specs.Table.Setup.{Setup}
 use Rattle.br_model.specs.Forward.Shares.{mark_of}
 use Rattle.br_model.specs.Table.Table.{Table}
-use Rattle.br_model.specs.Plane.ChipSteps.{reports, swept}
+use Rattle.br_model.specs.Plane.ChipSteps.{reports}
 use Rattle.br_model.specs.Plane.Entering.{class_of}
 use Rattle.br_model.specs.Theorems.FrameLines.{entering}
 use Rattle.br_model.specs.declared.transcript.Line.{Line}
 use Rattle.br_model.specs.Theorems.Invariants.{frames_of, has_own_mark, IsFrame, FramesStand, ReportsStand, IsWorld, ChipStands}
-use Rattle.br_model.specs.Plane.Serving.{holds}
 use Rattle.br_model.specs.Plane.Steps.{publishes, world_step}
 use Rattle.br_model.specs.declared.steps.Step.{Step}
 use Rattle.br_model.specs.Plane.World.{World, Waiting, Holding, first_world, chip_at, next_of, table_of_chip, Stepped, accepts, answered, reacts, with_chip}
