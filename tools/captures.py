@@ -1,5 +1,6 @@
 """Captures: pcapng and classic pcap are read, pcapng is written."""
 import collections
+import io
 import struct
 
 # interface: its index among those of the whole file; time: microseconds; length: that of the packet before it was shortened; direction:
@@ -12,6 +13,7 @@ SECTION, DESCRIPTION, OLD_PACKET, SIMPLE_PACKET, STATISTICS, PACKET = 0x0A0D0D0A
 NAME, NOTE, RESOLUTION = 2, 3, 9  # options of a description
 FLAGS = 2  # of a packet
 DROPPED = 5  # of statistics
+LONGEST_BLOCK = 1 << 26  # bytes
 PCAP_MAGICS = {0xA1B2C3D4: 1, 0xA1B23C4D: 1000}
 
 
@@ -24,10 +26,7 @@ def read(data):
     if len(data) < 12:
         raise Broken("too short for a capture")
     if struct.unpack_from("<I", data)[0] == SECTION:
-        try:
-            return read_pcapng(data)
-        except struct.error as error:
-            raise Broken("a block is too short for what it is") from error
+        return read_pcapng(data)
     for order in "<>":
         magic = struct.unpack_from(order + "I", data)[0]
         if magic in PCAP_MAGICS:
@@ -71,56 +70,80 @@ def microseconds(ticks, resolution):
     return ticks * 10**6 // (2 ** (power & 0x7F) if power & 0x80 else 10**power)
 
 
-def blocks(data):
-    """The byte order, the type and the body of each block."""
-    at, order = 0, "<"
-    while at < len(data):
-        if at + 12 > len(data):
-            raise Broken(f"the block at {at} is cut off")
-        if data[at:at + 4] == b"\x0a\x0d\x0d\x0a":
-            order = "<" if data[at + 8:at + 12] == b"\x4d\x3c\x2b\x1a" else ">"
-        kind, length = struct.unpack_from(order + "2I", data, at)
-        if length < 12 or length % 4 or at + length > len(data):
-            raise Broken(f"the block at {at} has a wrong length")
-        yield order, kind, data[at + 8:at + length - 4]
-        at += length
+class Reader:
+    """A pcapng file, read block by block: `interfaces` grows as they are described, `dropped` as it is said how many packets were lost."""
+
+    def __init__(self, file):
+        self.file, self.order, self.first, self.at = file, "<", 0, 0
+        self.interfaces, self.resolutions, self.dropped = [], [], []
+
+    def blocks(self):
+        """The type and the body of each block."""
+        while True:
+            head = self.file.read(8)
+            if not head:
+                return
+            if head[:4] == b"\x0a\x0d\x0d\x0a":
+                head += self.file.read(4)
+                self.order = "<" if head[8:] == b"\x4d\x3c\x2b\x1a" else ">"
+            if len(head) < 8:
+                raise Broken(f"the block at {self.at} is cut off")
+            kind, length = struct.unpack_from(self.order + "2I", head)
+            if not 12 <= length <= LONGEST_BLOCK or length % 4:
+                raise Broken(f"the block at {self.at} has a wrong length")
+            body = head[8:] + self.file.read(length - len(head))
+            if len(body) != length - 8:
+                raise Broken(f"the block at {self.at} is cut off")
+            self.at += length
+            yield kind, body[:-4]
+
+    def packets(self):
+        try:
+            for kind, body in self.blocks():
+                if kind in (PACKET, OLD_PACKET):
+                    yield self.packet(kind, body)
+                elif kind == SIMPLE_PACKET:
+                    yield self.simple_packet(body)
+                else:
+                    self.describe(kind, body)
+        except struct.error as error:
+            raise Broken("a block is too short for what it is") from error
+
+    def describe(self, kind, body):
+        if kind == SECTION:
+            self.first = len(self.interfaces)
+        elif kind == DESCRIPTION:
+            given = options(body[8:], self.order)
+            name, note = [given.get(each, b"").decode("utf-8", "replace") for each in (NAME, NOTE)]
+            self.interfaces.append(Interface(struct.unpack_from(self.order + "H", body)[0], name, note))
+            self.resolutions.append(given.get(RESOLUTION))
+        elif kind == STATISTICS:
+            value = options(body[12:], self.order).get(DROPPED)
+            self.dropped += [struct.unpack(self.order + "Q", value)[0]] if value else []
+
+    def packet(self, kind, body):
+        fields = struct.unpack_from(self.order + ("5I" if kind == PACKET else "2H4I"), body)
+        number, high, low, captured, length = fields if kind == PACKET else (fields[0], *fields[2:])
+        if self.first + number >= len(self.interfaces):
+            raise Broken(f"a packet of interface {number}, which isn't described")
+        if 20 + captured > len(body):
+            raise Broken("a packet is longer than its block")
+        time = microseconds(high << 32 | low, self.resolutions[self.first + number])
+        flags = options(body[20 + (captured + 3) // 4 * 4:], self.order).get(FLAGS) if kind == PACKET else None
+        direction = struct.unpack(self.order + "I", flags)[0] & 3 if flags else 0
+        return Packet(self.first + number, time, body[20:20 + captured], length, direction)
+
+    def simple_packet(self, body):
+        if self.first >= len(self.interfaces):
+            raise Broken("a packet of no interface")
+        length = struct.unpack_from(self.order + "I", body)[0]
+        return Packet(self.first, 0, body[4:4 + length], length)
 
 
 def read_pcapng(data):
-    interfaces, resolutions, packets = [], [], []
-    first = 0
-    for order, kind, body in blocks(data):
-        if kind == SECTION:
-            first = len(interfaces)
-        elif kind == DESCRIPTION:
-            given = options(body[8:], order)
-            name, note = [given.get(each, b"").decode("utf-8", "replace") for each in (NAME, NOTE)]
-            interfaces.append(Interface(struct.unpack_from(order + "H", body)[0], name, note))
-            resolutions.append(given.get(RESOLUTION))
-        elif kind in (PACKET, OLD_PACKET):
-            head = order + ("5I" if kind == PACKET else "2H4I")
-            fields = struct.unpack_from(head, body)
-            number, high, low, captured, length = fields if kind == PACKET else (fields[0], *fields[2:])
-            if first + number >= len(interfaces):
-                raise Broken(f"a packet of interface {number}, which isn't described")
-            if 20 + captured > len(body):
-                raise Broken("a packet is longer than its block")
-            time = microseconds(high << 32 | low, resolutions[first + number])
-            flags = options(body[20 + (captured + 3) // 4 * 4:], order).get(FLAGS) if kind == PACKET else None
-            direction = struct.unpack(order + "I", flags)[0] & 3 if flags else 0
-            packets.append(Packet(first + number, time, body[20:20 + captured], length, direction))
-        elif kind == SIMPLE_PACKET:
-            if first >= len(interfaces):
-                raise Broken("a packet of no interface")
-            length = struct.unpack_from(order + "I", body)[0]
-            packets.append(Packet(first, 0, body[4:4 + length], length))
-    return interfaces, packets
-
-
-def lost(data):
-    """How many packets each statistics block says were dropped."""
-    found = [(order, options(body[12:], order).get(DROPPED)) for order, kind, body in blocks(data) if kind == STATISTICS]
-    return [struct.unpack(order + "Q", value)[0] for order, value in found if value]
+    reader = Reader(io.BytesIO(data))
+    packets = list(reader.packets())
+    return reader.interfaces, packets
 
 
 def block(kind, body):

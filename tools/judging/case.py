@@ -1,27 +1,39 @@
-"""One bridge of a record: its frames, each with what left of it, and its scenario.
+"""One bridge of a record: its frames, each with what left of it, and its scenarios.
 
 A frame that leaves a device is the latest one with the same bytes but for the tag that entered the bridge and hasn't left there yet.
+
+A scenario has its limits, and a record has none. So a bridge is judged in windows, each by a scenario of its own, which begins with what the
+kernel's tables have then, put in as old as it is. Of a frame are kept the bytes that decide something.
 """
 import collections
 
 import named
 import packets
+from kernel import Changes
 from model import HOST, MOST_PORTS, QUERIER, Item, Model
 
-QUIET = 900 * 10**6      # ns without frames and commands, behind which the tables are compared
-MOST_CUTS = 250
-FLIGHT = 10**9           # ns within which a frame leaves
+MOST_CUTS = 250          # quiet moments of a window at which the tables are compared
+MOST_LOOKED = 4 * 10**6  # lines that are replayed for that, at most
+MOST_WEIGHT, MOST_SIZE = 700000, 1 << 27  # of a window: changes, and bytes
 OWN_QUERIER_WAITS = 10 * 10**9
 OWN_QUERIER_AGAIN = 100 * 10**9
+FORGETS = 300 * 10**9    # ns: what was heard before is of no use any more, and no window begins earlier
+
+# What a person may set: moments from which and until which is judged (None: all), ns round a change within which a frame may be as the tables
+# of either side say, ns by which the kernel's timers are late, ns without frames and commands behind which the tables are compared, ns within
+# which a frame leaves, whether ports of a switch are judged, and frames of a window
+Bounds = collections.namedtuple("Bounds", "since until near late quiet flight chip frames",
+                                defaults=(None, None, 10**7, 20 * 10**9, 9 * 10**8, 10**9, False, 100000))
 
 
 class Frame:
-    """A frame that entered. `out`: (number, bytes) of what left, `last`: the place in the record of the last of these; `expected`: the
-    named difference that decides it by itself, with the numbers of the ports that the kernel uses then, or None; `item`: its place in
-    the scenario; `view`: what the kernel's tables said; `settings`: the configuration of its port."""
+    """A frame that entered, of which `data` are the bytes that decide something. `out`: (number, bytes) of what left; `expected`: the named
+    difference that decides it by itself, with the numbers of the ports that the kernel uses then, or None; `item`: its place in the
+    scenario; `view`: what the kernel's tables said; `settings`: the configuration of its port."""
+    __slots__ = ("time", "order", "number", "data", "out", "last", "expected", "item", "view", "kept_tag", "settings", "length")
 
-    def __init__(self, time, order, number, data):
-        self.time, self.order, self.number, self.data = time, order, number, data
+    def __init__(self, time, order, number, data, length):
+        self.time, self.order, self.number, self.data, self.length = time, order, number, data, length
         self.out, self.last, self.expected, self.item, self.view, self.kept_tag = [], order, None, None, None, b""
         self.settings = ""
 
@@ -32,26 +44,143 @@ class Cut:
 
     def __init__(self, time, fdb, mdb, sources):
         self.time, self.fdb, self.mdb, self.sources, self.corrections = time, fdb, mdb, sources, []
-        self.due, self.late, self.came = set(), set(), {}
+        self.due, self.late, self.came, self.place = set(), set(), {}, 0
+
+
+class Window:
+    """A part of the record with a scenario of its own. `skip`: why it isn't judged, or None."""
+
+    def __init__(self, model, skip=None):
+        self.model, self.skip, self.end, self.looked = model, skip, None, 0
+        self.frames, self.cuts, self.strangers = [], [], []
+        self.followed, self.taught = set(), set()  # members and addresses that the judge put in, whose ends it follows
+
+    def is_full(self, bounds):
+        return len(self.frames) >= bounds.frames or self.model.weight > MOST_WEIGHT or self.model.size > MOST_SIZE
 
 
 class Case:
-    def __init__(self, time, bridge, lacks):
-        self.bridge, self.born, self.lacks = bridge, time, lacks
+    """`judge`: what takes a window once all is known of it."""
+
+    def __init__(self, time, bridge, lacks, bounds=Bounds(), judge=None):
+        self.bridge, self.born, self.lacks, self.bounds, self.judge = bridge, time, lacks, bounds, judge
         self.is_over, self.in_use, self.sees_host = False, bool(lacks), True
-        self.model, self.frames, self.cuts = Model(), [], []
-        self.recent = collections.defaultdict(collections.deque)
-        self.notes, self.uncompared, self.strangers = collections.Counter(), collections.Counter(), []
+        self.window, self.closing = None, collections.deque()
+        self.recent, self.entered = collections.defaultdict(collections.deque), collections.deque()
+        self.joined = {}  # source and destination of frames that the kernel has joined -> when the last one passed
+        self.notes, self.uncompared = collections.Counter(), collections.Counter()
         self.asked_at, self.last_event, self.unseen = None, None, False
         self.gone = collections.defaultdict(list)  # when entries and members went: key -> moments
-        self.followed, self.taught = set(), set()  # members and addresses that the judge put in, whose ends it follows
-        self.snooped = named.Snooped()
+        self.snooped = named.Snooped(bounds)
         self.own_query_due, self.own_query_six, self.own_querier_since = None, False, None
-        self.settings = {}  # of each device in words, and the like, until something changes
+        self.cached = {}  # what follows from the configuration, until it changes
         self.odd = []  # (moment, device, name) of messages of an odd form
         self.heard, self.left = {}, {}  # when a station spoke, or a member reported or left, by the keys of the tables
         self.told, self.changes = {}, []  # when entries and members came, and when the configuration changed
-        self.pending = []  # what was learned before the record, or with a command that the scenario has otherwise
+        self.known_ports, self.tally = {}, None
+        self.routers_told = []  # ports that the state at the start has as routers'
+        self.pending = []  # (moment, kind, device, VLAN, what) that was learned before, or with a command that the scenario has otherwise
+        if not lacks:
+            self.open(time)
+
+    @property
+    def model(self):
+        return self.window.model
+
+    # ---- windows ----
+
+    def open(self, time):
+        """Begins a window with what the kernel has."""
+        present = self.bridge.ports
+        self.window = Window(Model(self.window.model if self.window else None, present), self.why_skipped(time))
+        self.snooped.keep(self.model.numbers.values())
+        self.bridge.changes = Changes(True)
+        self.cached.clear()
+        if present:
+            self.begin(time)
+
+    def why_skipped(self, time):
+        since, until = self.bounds.since, self.bounds.until
+        if since is not None and time < since:
+            return "before --since"
+        if until is not None and time >= until:
+            return "from --until on"
+        if len(self.bridge.ports) > MOST_PORTS:
+            return "the bridge has more than %d ports" % MOST_PORTS
+        return None
+
+    def begin(self, time):
+        """Puts in what the kernel learned before, in the order in which it was last heard."""
+        self.put_off(self.bridge.fdb, self.bridge.mdb, time)
+        oldest = max(min((each[0] for each in self.pending), default=time), time - FORGETS)
+        queriers = list(self.snooped.living_routers(time))
+        oldest = min([oldest] + [max(moment, time - FORGETS) for moment, _, _ in queriers])
+        self.model.sync(self.bridge, oldest, oldest)
+        self.model.forgotten.clear()
+        for moment, version, number in queriers:
+            self.pending.append((moment, "querier", number, 0, version))
+        self.teach_pending(oldest)
+        if self.own_query_due is not None and self.own_querier_since <= time:
+            self.own_query_due = time
+
+    def put_off(self, addresses, members, time):
+        """Notes entries, and members by reports, that are to be put in."""
+        for vid, mac in addresses:
+            device, kind = self.bridge.fdb[vid, mac]
+            if kind == "learned" and self.bridge.counts(vid):
+                self.pending.append((self.heard.get((vid, mac), time), "learned", device, vid, mac))
+        for vid, group, device in members:
+            if not self.bridge.mdb[vid, group, device] and self.bridge.counts(vid):
+                self.pending.append((self.heard.get((vid, group, device), time), "member", device, vid, group))
+
+    def close(self, time):
+        self.window.end = time
+        self.closing.append(self.window)
+
+    def renew(self, time):
+        self.close(time)
+        self.open(time)
+
+    def settle(self, time):
+        """Judges the windows of which nothing more is to be known."""
+        while self.closing and time > self.closing[0].end + max(self.bounds.late, self.bounds.flight):
+            self.finish(self.closing.popleft())
+
+    def finish(self, window):
+        if self.bridge.switch_ports and not self.bounds.chip:
+            window.skip = window.skip or "at a bridge with ports of a switch"
+        if window.skip:
+            self.uncompared[window.skip] += len(window.frames)
+        elif window.frames or window.strangers:
+            self.judge(self, window)
+        self.prune(window.end)
+
+    def prune(self, time):
+        """Forgets what is of no use behind a moment."""
+        self.changes = [each for each in self.changes if each > time - self.bounds.flight]
+        self.odd = [each for each in self.odd if each[0] > time - FORGETS]
+        for key, moments in list(self.gone.items()):
+            if moments[-1] < time - self.bounds.flight:
+                del self.gone[key]
+        for known in (self.heard, self.left, self.told):
+            for key in [key for key, moment in known.items() if moment < time - FORGETS]:
+                if key not in self.bridge.fdb and key not in self.bridge.mdb:
+                    del known[key]
+
+    def end(self, time):
+        """Judges what is left."""
+        if not self.is_over:
+            self.quiet(time)
+            self.is_over = True
+        if self.window and self.window.end is None:
+            self.close(time)
+        while self.closing:
+            self.finish(self.closing.popleft())
+
+    def pass_bounds(self, time):
+        """Begins a window where the judging begins or ends, and where the window is full."""
+        if self.window.skip != self.why_skipped(time) or self.window.is_full(self.bounds):
+            self.renew(time)
 
     # ---- what the kernel says ----
 
@@ -60,20 +189,20 @@ class Case:
         self.asked_at = time
 
     def changed(self, time):
-        self.settings.clear()
-        if self.is_over or self.lacks:
+        if not self.bridge.changes.of_tables_alone():
+            self.cached.clear()
+        if self.is_over or self.window is None:
             return
-        if len(self.bridge.ports) + len(self.model.numbers) > MOST_PORTS:
-            self.notes["more ports than a scenario has: not judged"] = 1
-            self.is_over = True
+        if self.bridge.changes.ports and not self.window.skip and not self.model.has_room(self.bridge.ports):
+            self.renew(time)
             return
         if self.model.snooping and not self.bridge.is_snooping():
             self.snooping_ends(time)
         before = len(self.model.items)
         if self.bridge.ports or self.model.up:
-            begin = self.asked_at if self.asked_at is not None and time - self.asked_at < FLIGHT else time
+            begin = self.asked_at if self.asked_at is not None and time - self.asked_at < self.bounds.flight else time
             self.model.sync(self.bridge, begin, time)
-            self.remember()
+            self.remember(time)
             self.teach_pending(time)
         if len(self.model.items) > before:
             self.changes.append(time)
@@ -87,93 +216,99 @@ class Case:
                 self.notes["snooping-flush"] += 1
                 self.end_member(time, key)
 
-    def remember(self):
+    def remember(self, time):
         """What the scenario lost with a command by which the kernel keeps it is to be learned again."""
-        for name, vid in self.model.forgotten:
-            for (kernel_vid, mac), (device, kind) in self.bridge.fdb.items():
-                if kind == "learned" and self.is_of(name, vid, kernel_vid, device):
-                    self.pending.append(("learned", device, kernel_vid, mac))
-            for (kernel_vid, group, device), by_command in self.bridge.mdb.items():
-                if not by_command and self.is_of(name, vid, kernel_vid, device):
-                    self.pending.append(("member", device, kernel_vid, group))
+        for device, vid in self.model.forgotten:
+            if device is None:
+                self.put_off(self.bridge.fdb, self.bridge.mdb, time)
+            elif self.model.place(self.bridge, device, vid):
+                kernel_vid = vid if self.bridge.is_aware() else 0
+                self.put_off(self.bridge.addresses.at(device, kernel_vid), self.bridge.groups.at(device, kernel_vid), time)
         self.model.forgotten.clear()
-
-    def is_of(self, name, vid, kernel_vid, device):
-        if not self.bridge.counts(kernel_vid):
-            return False
-        return name is None or (vid == (kernel_vid or 1) and self.model.place(self.bridge, device, vid) == name.replace("HOST", "host"))
 
     def teach_pending(self, time):
         """Puts in, by frames, what the kernel learned unseen."""
         waiting, self.pending = self.pending, []
-        for kind, device, vid, what in waiting:
+        for moment, kind, device, vid, what in sorted(waiting, key=lambda each: each[0]):
+            if kind == "querier":
+                self.hear_again(max(moment, time), what, device)
+                continue
             name = self.model.place(self.bridge, device, vid or 1)
             if name is None:
                 continue
             number = HOST if name == "host" else self.model.numbers[device]
             self.notes["put in by a frame: " + kind] += 1
             if kind == "learned" and name != "host":
-                self.taught.add((vid, what))
-                self.model.teach(time, number, name, vid or 1, what)
+                self.window.taught.add((vid, what))
+                self.model.teach(max(moment, time), number, name, vid or 1, what)
             elif kind == "member":
-                self.followed.add((vid, what, device))
-                self.model.join(time, number, name.replace("host", "HOST"), vid or 1, what)
+                self.window.followed.add((vid, what, device))
+                self.model.join(max(moment, time), number, name.replace("host", "HOST"), vid or 1, what)
+
+    def hear_again(self, time, version, number):
+        """A querier that was heard in a window before."""
+        name = self.model.names.get(number)
+        vlans = self.model.vlans.get(name)
+        if vlans:
+            vid = next((vid for vid, (pvid, _) in vlans.items() if pvid), next(iter(vlans)))
+            self.model.hear(time, number, name, vid, version)
 
     def started(self, time):
         """The state at the start is whole: the scenario begins."""
-        self.changed(time)
-        for (vid, mac), (device, kind) in self.bridge.fdb.items():
-            if kind == "learned" and self.bridge.counts(vid):
-                self.pending.append(("learned", device, vid, mac))
-        for (vid, group, device), by_command in self.bridge.mdb.items():
-            if not by_command and self.bridge.counts(vid):
-                self.pending.append(("member", device, vid, group))
-        self.teach_pending(time)
+        self.open(time)
+        self.snooped.told |= {self.model.number(port) for port in self.routers_told}
+        self.changes.append(time)
+        self.follow_querier(time)
         self.start_queriers(time)
 
     def start_queriers(self, time):
         """Queriers that were known before the record."""
         state = self.bridge.options.get("querier_state") or {}
         for version, port, timer in ((4, 2, 3), (6, 6, 7)):
-            device = int.from_bytes(state.get(port, b""), "little")
+            device = state.get(port)
             if timer in state and device in self.bridge.ports and self.bridge.ports[device].is_up():
-                each = self.bridge.ports[device]
-                vlans = self.model.vlans[self.model.name(each)]
-                vid = next((vid for vid, (pvid, _) in vlans.items() if pvid), next(iter(vlans), None))
-                if vid is not None:
-                    self.model.hear(time, self.model.number(each), self.model.name(each), vid, version)
-                    self.snooped.heard_before(version, self.model.number(each), time)
-                    self.notes["a querier from before the record"] += 1
+                number = self.model.number(self.bridge.ports[device])
+                self.hear_again(time, version, number)
+                self.snooped.heard_before(version, number, time)
+                self.notes["a querier from before the record"] += 1
 
     def address(self, time, entry, gone, how):
         self.unseen = True
         key = entry.vid, entry.mac
-        before = self.bridge.fdb.pop(key, (None, None))
+        before = self.bridge.addresses.drop(key) or (None, None)
+        self.bridge.changes.addresses.add(key)
+        (self.bridge.locked.add if entry.locked and not gone else self.bridge.locked.discard)(key)
         if gone:
-            self.gone[key].append(time)
-            if not how and (self.bridge.options.get("stp_state") or key in self.taught):
-                how = "time"  # a change of the topology shortens it, and a frame that was put in began it anew
-            self.taught.discard(key)
-            if before[1] == "learned" and how and not self.lacks and self.bridge.counts(entry.vid):
-                self.sync_moments(time)
-                self.model.forget(entry.vid or 1, entry.mac)
+            self.address_gone(time, entry, before, how)
         else:
-            self.bridge.fdb[key] = entry.index, entry.kind
+            self.bridge.addresses.put(key, (entry.index, entry.kind))
             self.told[key] = time
             if entry.sticky:
                 self.notes["sticky entries, which are static ones here"] += 1
             self.address_changed(time, entry, before, how)
         self.changed(time)
 
+    def address_gone(self, time, entry, before, how):
+        key = entry.vid, entry.mac
+        self.gone[key].append(time)
+        if self.window is None:
+            return
+        if not how and (self.bridge.options.get("stp_state") or key in self.window.taught):
+            how = "time"  # a change of the topology shortens it, and a frame that was put in began it anew
+        self.window.taught.discard(key)
+        if before[1] == "learned" and how and self.bridge.counts(entry.vid):
+            self.sync_moments(time)
+            self.model.forget(entry.vid or 1, entry.mac)
+
     def address_changed(self, time, entry, before, how):
         key = entry.vid or 1, entry.mac
-        if self.lacks or not self.bridge.counts(entry.vid):
+        if self.window is None or not self.bridge.counts(entry.vid):
             return
         if entry.kind != "learned" and before[1] == "learned":
             self.sync_moments(time)
             self.model.forget(*key)
         elif entry.kind == "learned" and how == "command":
-            self.pending.append(("learned", entry.index, entry.vid, entry.mac))
+            self.pending.append((time, "learned", entry.index, entry.vid, entry.mac))
         elif entry.kind == "learned" and before[1] == "extern":
             self.model.fdb.pop(key, None)  # a station that moves takes over what a chip learned, in both
         elif entry.kind == "static" and before[1] == "static" and before[0] != entry.index and not how:
@@ -191,17 +326,17 @@ class Case:
             self.notes["groups by MAC, which a scenario can't say"] += not gone
             return
         key = member.vid, member.group, member.index
-        before = self.bridge.mdb.get(key)
+        self.bridge.changes.members.add(key)
+        before = self.bridge.groups.drop(key)
         self.bridge.includes.discard(key)
         if member.includes and not gone:
             self.bridge.includes.add(key)
         if gone:
-            self.bridge.mdb.pop(key, None)
             self.member_gone(time, key, before, by_command)
-            if not any(each[:2] == key[:2] for each in self.bridge.mdb):
+            if not self.bridge.members_at(key[:2]):
                 self.bridge.sources.discard((member.vid, member.address))
         else:
-            self.bridge.mdb[key] = bool(before or by_command or member.permanent)
+            self.bridge.groups.put(key, bool(before or by_command or member.permanent))
             self.told[key] = time
             if before is False and self.bridge.mdb[key]:
                 self.end_member(time, key)
@@ -211,26 +346,28 @@ class Case:
         self.gone[key].append(time)
         if before and not by_command and key[2] == self.bridge.index:
             self.notes["host-group-end"] += 1
-        if before is False:
+        if before is False and self.window:
             why = "by command" if by_command else self.why_followed(time, key)
             if why:
                 self.end_member(time, key)
                 if why != "by command":
                     self.notes[why] += 1
-        self.followed.discard(key)
+            self.window.followed.discard(key)
 
     def why_followed(self, time, key):
         """Why the scenario doesn't end a membership by itself that the kernel ends, or None."""
-        if key in self.followed:
+        if key in self.window.followed:
             return "put in by a frame, and ended"
         if self.snooped.asked_of(time, key[1]):
             return "group-query"
         return "snooping times" if named.has_own_times(self.bridge) else None
 
     def end_member(self, time, key):
+        if self.window is None:
+            return
         vid, group, device = key
         name = self.model.place(self.bridge, device, vid or 1)
-        if name and not self.lacks and self.bridge.counts(vid):
+        if name and self.bridge.counts(vid):
             self.sync_moments(time)
             self.model.forget_member(vid or 1, group, name)
             if name == "host":
@@ -238,16 +375,16 @@ class Case:
 
     def router(self, time, router, gone):
         (self.bridge.routers.discard if gone else self.bridge.routers.add)(router.index)
+        self.cached.clear()
         port = self.bridge.ports.get(router.index)
         if port and not gone and self.in_use and self.lacks:
-            self.snooped.told_router(self.model.number(port))
+            self.routers_told.append(port)
 
     def ended(self, time):
-        self.quiet(time)
-        self.is_over = True
+        self.end(time)
 
     def sync_moments(self, time):
-        self.model.moments = (self.asked_at if self.asked_at is not None and time - self.asked_at < FLIGHT else time), time
+        self.model.moments = (self.asked_at if self.asked_at is not None and time - self.asked_at < self.bounds.flight else time), time
 
     # ---- the bridge's own querier ----
 
@@ -255,7 +392,7 @@ class Case:
         if not self.bridge.options.get("mcast_querier"):
             self.own_querier_since = self.snooped.own_six = None
         elif self.own_querier_since is None:
-            waits = self.bridge.options.get("query_response_interval", 1000) * 10**7
+            waits = (self.bridge.options.get("query_response_interval") or 1000) * 10**7
             self.own_querier_since = time if self.in_use else self.born + OWN_QUERIER_WAITS if time - self.born < 10**8 else time + waits
             self.own_query_six = self.own_query_six or self.in_use
             self.snooped.own_six = None if self.snooped.knows(6, time) else bytes(16)  # while another one is known it doesn't ask
@@ -269,6 +406,8 @@ class Case:
     def own_queries(self, time):
         """The querier of the bridge is known once it has waited; in the scenario its queries enter at a port of their own."""
         while self.own_query_due is not None and time > self.own_query_due and "QUERIER" in self.model.up and not self.is_over:
+            if time - self.own_query_due > FORGETS:  # long quiet: the last ones are enough
+                self.own_query_due = time - FORGETS
             at, self.own_query_due = self.own_query_due, self.own_query_due + OWN_QUERIER_AGAIN
             for version in (4, 6) if self.own_query_six else (4,):
                 self.own_query(at, version)
@@ -280,44 +419,53 @@ class Case:
 
     # ---- frames ----
 
+    def cache(self, key, find):
+        """What follows from the configuration, found once."""
+        if key not in self.cached:
+            self.cached[key] = find()
+        return self.cached[key]
+
     def settings_of(self, device):
         """The kernel's configuration of a device, in words."""
-        if device not in self.settings:
-            port = self.bridge.ports.get(device)
-            self.settings[device] = port.describe(self.bridge) if port else self.bridge.describe()
-        return self.settings[device]
+        port = self.bridge.ports.get(device)
+        return self.cache(("words", device), lambda: port.describe(self.bridge) if port else self.bridge.describe())
 
     def settings_on(self):
         """By setting the numbers of the ports that have it (of the flags: that don't)."""
-        if "on" not in self.settings:
-            ports = {self.number_of(each.index): each for each in self.bridge.ports.values()}
-            on = {setting: {n for n, each in ports.items() if each.has(setting)} for setting in named.SETTINGS}
-            on["bcast_flood"] = {n for n, each in ports.items() if not each.flags["bcast_flood"]}
-            self.settings["on"] = on
-        return self.settings["on"]
+        return self.cache("on", self.find_settings)
+
+    def find_settings(self):
+        ports = {self.number_of(each.index): each for each in self.bridge.ports.values()}
+        on = {setting: {n for n, each in ports.items() if each.has(setting)} for setting in named.SETTINGS}
+        on["bcast_flood"] = {n for n, each in ports.items() if not each.flags["bcast_flood"]}
+        return on
 
     def options_now(self):
-        if "options" not in self.settings:
-            self.settings["options"] = dict(self.bridge.options)
-        return self.settings["options"]
+        return self.cache("options", lambda: dict(self.bridge.options))
 
     def quiet(self, time):
         """Remembers the kernel's tables where nothing happened for a while."""
-        was_quiet = self.last_event is not None and time - self.last_event > QUIET
-        if was_quiet and self.unseen and self.frames and not self.is_over and len(self.cuts) < MOST_CUTS:
+        was_quiet = self.last_event is not None and time - self.last_event > self.bounds.quiet
+        if was_quiet and self.unseen and self.window and self.window.frames and not self.window.skip and not self.is_over:
             self.cut(time)
         self.last_event = time
 
     def cut(self, time):
+        window = self.window
+        if len(window.cuts) >= MOST_CUTS or window.looked > MOST_LOOKED:
+            self.notes["quiet moments at which the tables weren't compared"] += 1
+            return
         self.own_queries(time)
         self.model.at(time - 2 * 10**6)
+        window.looked += len(self.model.items)
         sources = {(packets.group_text(group), vid or 1) for vid, group in self.bridge.sources if len(group) in (4, 16)}
         cut = Cut(time, self.kernel_fdb(), self.kernel_mdb(), sources)
         keys = (*cut.fdb.values(), *cut.mdb.values())
         cut.due = {key for key in keys if named.is_due(self, key, time)}
         cut.late = {key for key in keys if named.is_late(self, key, time)}
         cut.came = {key: self.told[key] for key in keys if key in self.told}
-        self.cuts.append(cut)
+        cut.place = len(self.model.items)
+        window.cuts.append(cut)
         self.model.items.append(Item(cut=cut))
         self.unseen = False
 
@@ -344,46 +492,61 @@ class Case:
     def number_of(self, device):
         return 0 if device == self.bridge.index else self.model.number(self.bridge.ports[device])
 
-    def frame(self, time, order, device, left, data):
+    def frame(self, packet, order):
         """A frame at the bridge's device or a port's. What the bridge's device sends enters the bridge, and what it gets left it."""
-        if self.is_over:
-            return
-        if self.lacks:
+        is_host, time = packet.device == self.bridge.index, packet.time
+        enters = packet.left == is_host
+        if self.lacks or self.window is None:
             self.uncompared["before the state at the start was whole"] += 1
+            if enters:
+                self.remember_frame(Frame(time, order, -1, b"", packet.length), packet)
             return
+        self.settle(time)
         self.quiet(time)
-        is_host = device == self.bridge.index
-        if left != is_host:
-            self.leave(time, order, device, data)
+        if enters:
+            self.pass_bounds(time)
+            self.enter(packet, order, HOST if is_host else self.number_of(packet.device))
         else:
-            self.enter(time, order, HOST if is_host else self.number_of(device), device, data)
+            self.leave(packet, order)
 
-    def enter(self, time, order, number, device, data):
+    def enter(self, packet, order, number):
+        time, device = packet.time, packet.device
         self.own_queries(time)
-        why = named.unfit(self.bridge, data, number == HOST)
-        if why:
-            self.uncompared[why] += 1
-            self.remember_frame(Frame(time, order, number, data))
-            self.teach_unfit(time, number, device, data)
+        data = packets.deciding(packet.data, packet.length)
+        why = self.unfit(packet, number)
+        frame = Frame(time, order, number, data or packet.data[:packets.KEPT], packet.length)
+        self.remember_frame(frame, packet)
+        if why or data is None:
+            self.uncompared[why or "a message, or to a group, and shortened"] += 1
+            if len(packet.data) >= packets.SHORTEST:
+                self.teach_unfit(time, number, device, frame.data)
             return
-        frame = Frame(time, order, number, data)
         given = data
         if not self.bridge.is_aware():
             frame.kept_tag, given = packets.tag_of(data), packets.bare(data)
-        frame.view = named.View(self, number, device, given, time)
+        frame.view = named.View(self, number, device, given, time, packet.length)
         frame.settings = self.settings_of(device)
         frame.expected = named.expected(self, frame, given)
-        self.frames.append(frame)
-        self.remember_frame(frame)
+        self.window.frames.append(frame)
         self.unseen = True
         if frame.expected is None:
             self.model.enter(time, number, given.hex(), frame)
         else:
             self.model.at(time)
         frame.item = len(self.model.items) - 1
-        self.heard[frame.view.key[0], data[6:12].hex(":")] = time
-        self.taught.discard((frame.view.key[0], data[6:12].hex(":")))
-        named.react(self, frame, given)
+        self.heard[frame.view.source] = time
+        self.window.taught.discard(frame.view.source)
+        if frame.view.is_group or frame.expected:
+            named.react(self, frame, given)
+
+    def unfit(self, packet, number):
+        """Why a frame isn't judged, or None."""
+        port = self.bridge.ports.get(packet.device)
+        mtu = port.mtu if port else self.bridge.mtu
+        if mtu and packet.length > mtu + packets.HEADER:
+            self.joined[packet.data[:12]] = packet.time
+            return packets.joined_words(port.name if port else self.bridge.name)
+        return named.unfit(self.bridge, packet.data, packet.length, number == HOST)
 
     def note_message(self, time, vid, device, message):
         """When members reported, and left."""
@@ -394,51 +557,76 @@ class Case:
 
     def teach_unfit(self, time, number, device, data):
         """The kernel learns from a frame that isn't judged, too."""
-        view = named.View(self, number, device, data if self.bridge.is_aware() else packets.bare(data), time)
+        view = named.View(self, number, device, data if self.bridge.is_aware() else packets.bare(data), time, len(data))
         if view.port and view.port.is_up() and view.admitted and view.port.flags["learning"] and not data[6] & 1:
             if (view.source_entry or (0, ""))[1] != "local":
                 self.model.teach(time, number, self.model.name(view.port), view.vid, data[6:12].hex(":"))
 
-    def remember_frame(self, frame):
-        same = self.recent[packets.bare(frame.data)]
-        while same and frame.time - same[0].time > FLIGHT:
-            same.popleft()
-        same.append(frame)
-        if len(self.recent) > 20000:
-            self.recent = collections.defaultdict(collections.deque, {
-                key: value for key, value in self.recent.items() if value and frame.time - value[-1].time < FLIGHT})
+    def remember_frame(self, frame, packet):
+        key, rest = packets.parted(packet.data, packet.length)
+        self.recent[key].append((frame, rest))
+        self.entered.append((frame.time, key))
+        while self.entered[0][0] < frame.time - self.bounds.flight:
+            _, old = self.entered.popleft()
+            self.recent[old].popleft()
+            if not self.recent[old]:
+                del self.recent[old]
 
-    def leave(self, time, order, device, data):
-        number = self.number_of(device)
-        hairpin = device in self.bridge.ports and self.bridge.ports[device].has("hairpin")
-        for frame in reversed(self.recent.get(packets.bare(data), ())):
-            if time - frame.time < FLIGHT and (frame.number != number or hairpin) and number not in [each for each, _ in frame.out]:
-                frame.out.append((number, data))
+    def leave(self, packet, order):
+        number = self.number_of(packet.device)
+        key, rest = packets.parted(packet.data, packet.length)
+        for frame, its_rest in reversed(self.recent.get(key, ())):
+            if (rest == its_rest or None in (rest, its_rest)) and self.may_leave(frame, packet, number):
+                size = len(frame.data) - (4 if packets.tag_of(frame.data) else 0)
+                frame.out.append((number, packets.head(packet.data, size)))
                 frame.last = order
                 return
-        self.stranger(time, number, device, data)
+        self.stranger(packet.time, number, packet.device, packet.data)
+
+    def may_leave(self, frame, packet, number):
+        """Whether this may be what left of the frame: at another port, and not yet there."""
+        if packet.time - frame.time >= self.bounds.flight or any(each == number for each, _ in frame.out):
+            return False
+        port = self.bridge.ports.get(packet.device)
+        return frame.number != number or bool(port and port.has("hairpin"))
 
     def stranger(self, time, number, device, data):
         """A frame that left without having entered."""
-        message = packets.message_of(data)
-        source = data[6:12]
-        if data[:6] == b"\x01\x80\xc2\0\0\0" and self.bridge.options.get("stp_state"):
-            self.uncompared["the bridge's own BPDU"] += 1
-        elif message and message.kind == "query" and source == self.bridge.mac:
-            self.uncompared["the bridge's own %s query" % {4: "IGMP", 6: "MLD"}[message.version]] += 1
-            if message.version == 6 and self.own_querier_since is not None:
-                self.snooped.own_six = packets.addresses(data)[0]
-            if message.version == 6 and not self.own_query_six:
-                self.own_query_six = True
-                if self.own_querier_since is not None and time > self.own_querier_since and self.own_query_due is not None:
-                    self.own_query(time, 6)
-        elif not self.sees_host and source == self.bridge.mac:
-            self.uncompared["sent by the switch itself"] += 1
-        elif number and source == self.bridge.ports[device].mac:
-            self.uncompared["sent by a port's own device"] += 1
-        elif packets.asks_address(data) and (self.settings_on()["neigh_suppress"] or self.settings_on()["proxyarp"]):
-            self.uncompared["answered by the bridge (neigh_suppress, proxyarp)"] += 1
-        elif any(self.settings_on()[setting] for setting in named.CHANGES_BYTES):
-            self.uncompared["changed on its way (%s)" % ", ".join(named.CHANGES_BYTES)] += 1
+        why = self.why_strange(time, number, device, data)
+        if why:
+            self.uncompared[why] += 1
+        elif self.window.skip:
+            self.uncompared[self.window.skip] += 1
         else:
-            self.strangers.append((time, number, data))
+            self.window.strangers.append((time, number, data[:packets.KEPT]))
+
+    def why_strange(self, time, number, device, data):
+        """Why a frame leaves without having entered, or None."""
+        source = data[6:12]
+        if time - self.joined.get(data[:12], -self.bounds.flight) < self.bounds.flight:
+            return "a part of a frame that the kernel had joined"
+        if data[:6] == b"\x01\x80\xc2\0\0\0" and self.bridge.options.get("stp_state"):
+            return "the bridge's own BPDU"
+        message = packets.message_of(data)
+        if message and message.kind == "query" and source == self.bridge.mac:
+            self.hear_own_query(time, message, data)
+            return "the bridge's own %s query" % {4: "IGMP", 6: "MLD"}[message.version]
+        if not self.sees_host and source == self.bridge.mac:
+            return "sent by the switch itself"
+        if number and source == self.bridge.ports[device].mac:
+            return "sent by a port's own device"
+        if packets.asks_address(data) and (self.settings_on()["neigh_suppress"] or self.settings_on()["proxyarp"]):
+            return "answered by the bridge (neigh_suppress, proxyarp)"
+        if any(self.settings_on()[setting] for setting in named.CHANGES_BYTES):
+            return "changed on its way (%s)" % ", ".join(named.CHANGES_BYTES)
+        return None
+
+    def hear_own_query(self, time, message, data):
+        if message.version != 6:
+            return
+        if self.own_querier_since is not None:
+            self.snooped.own_six = packets.addresses(data)[0]
+        if not self.own_query_six:
+            self.own_query_six = True
+            if self.own_querier_since is not None and time > self.own_querier_since and self.own_query_due is not None:
+                self.own_query(time, 6)

@@ -2,9 +2,9 @@
 see the frames.
 
 What the far end sends enters the switch, and what it receives left it, by the direction flags of its capture. Without them the
-first capture that has a frame, whatever its tag, is taken for that of its sender. The clocks of all captures are to be one, within 2 ms.
+first capture that has a frame, whatever its tag, is taken for that of its sender. The clocks of all captures are to be one, but for a skew.
 
-The commands are those of a scenario, without `cmd`, in lines that may begin with a moment in seconds of the captures' clock:
+The commands are those of a scenario, with or without `cmd`, in lines that may begin with a moment in seconds of the captures' clock:
 
     bridge 02:00:00:00:00:01
     port up swp1
@@ -13,12 +13,15 @@ The commands are those of a scenario, without `cmd`, in lines that may begin wit
 
 Those without a moment come before all frames. Where no line is `port up`, all ports are up from the beginning.
 """
+import ipaddress
+import re
+
 import captures
 import kernel
 import packets
-from case import FLIGHT, Case
+import records
+from case import Case
 
-SKEW = 2 * 10**6  # ns by which a frame may be stamped where it left before it is stamped where it entered
 BEFORE = 10**9  # ns before the first frame, where the commands without a moment are put
 SENT, RECEIVED = 2, 1
 
@@ -30,34 +33,33 @@ class Broken(Exception):
 class FarCase(Case):
     """A switch that is seen from outside: the host's copies aren't, and nothing tells of its tables."""
 
-    def __init__(self, time, bridge):
-        super().__init__(time, bridge, set())
+    def __init__(self, time, bridge, bounds, judge):
+        super().__init__(time, bridge, set(), bounds, judge)
         self.sees_host = False
 
     def cut(self, time):
         pass
 
 
-def read(ports, commands):
-    """The name, the cases and the faults of what is captured by port, of words NAME=FILE."""
+def read(ports, commands, skew, open_case):
+    """The name, the case, its commands and its frames, of what is captured by port, of words NAME=FILE."""
     names, found = [], []
     for index, word in enumerate(ports, 1):
         name, _, path = word.partition("=")
-        if not path:
-            raise Broken("--port is NAME=FILE, and not %s" % word)
+        if not path or name in names:
+            raise Broken("--port is NAME=FILE, each NAME once, and not %s" % word)
         names.append(name)
         with open(path, "rb") as file:
             interfaces, given = captures.read(file.read())
         if any(interfaces[each.interface].link != captures.ETHERNET for each in given):
             raise Broken("%s: not of Ethernet alone" % path)
-        found += [(each.time * 1000, index, each.direction, each.data) for each in given]
-    found.sort(key=lambda each: each[0])
+        found += [(each.time * 1000, index, each) for each in given]
     if not found:
-        raise Broken("no frames")
-    case = FarCase(found[0][0] - BEFORE, bridge_of(names))
+        raise Broken("nothing judged: no frames are in the captures")
+    found = sorted(directed(sorted(found, key=lambda each: each[0]), round(skew * 10**9)), key=lambda each: each.time)
     changes = read_commands(commands, names) if commands else []
-    run(case, directed(found), changes)
-    return "far ends", [case], []
+    case = open_case(found[0].time)(found[0].time - BEFORE, bridge_of(names), set())
+    return "far ends", case, changes, found
 
 
 def bridge_of(names):
@@ -68,108 +70,170 @@ def bridge_of(names):
     return bridge
 
 
-def directed(found):
-    """(moment, port, whether it left, bytes) in order; what left is put later by the skew of the clocks."""
+def directed(found, skew):
+    """The packets; what left is put later by the skew of the clocks."""
     first = {}
-    for time, index, direction, data in found:
-        key = packets.bare(data)
+    for time, index, each in found:
+        key, direction = packets.bare(each.data), each.direction
         if not direction:
             entered = first.get(key)
-            if entered is None or time - entered[0] > FLIGHT:
+            if entered is None or time - entered[0] > 10**9:
                 first[key] = time, index
                 direction = SENT
             else:
                 direction = SENT if entered[1] == index else RECEIVED
-        yield_time = time + (SKEW if direction == RECEIVED else 0)
-        yield yield_time, index, direction == RECEIVED, data
+        left = direction == RECEIVED
+        yield records.Packet(time + (skew if left else 0), index, left, each.data, each.length)
 
 
 def run(case, found, changes):
     changes = sorted(changes, key=lambda each: each[0])
     if not any(words[:2] == ["port", "up"] for _, words in changes):
         changes[:0] = [(0, ["port", "up", port.name]) for port in case.bridge.ports.values()]
-    for order, (time, index, left, data) in enumerate(sorted(found, key=lambda each: each[0])):
-        while changes and changes[0][0] <= time:
+    for order, packet in enumerate(found):
+        while changes and changes[0][0] <= packet.time:
             moment, words = changes.pop(0)
-            change(case.bridge, words)
+            Commands(case.bridge).change(words)
             case.changed(max(moment, case.born))
-        case.frame(time, order, index, left, data)
+        case.frame(packet, order)
 
 
 def read_commands(path, names):
-    """(moment, words) of each line."""
+    """(moment, words) of each line. A word that isn't understood is a fault of its line."""
+    found, tried = [], Commands(bridge_of(names))
     with open(path) as file:
-        lines = [line.split() for line in file if line.strip() and not line.startswith("#")]
-    found = []
-    for words in lines:
-        moment = 0
-        if words[0][0].isdigit():
-            moment = int(float(words.pop(0)) * 10**9)
-        if words[:1] == ["cmd"]:
-            words.pop(0)
-        try:
-            change(bridge_of(names), list(words))
-        except (KeyError, IndexError, ValueError, StopIteration) as error:
-            raise Broken("%s: not understood: %s" % (path, " ".join(words))) from error
-        found.append((moment, words))
+        for number, line in enumerate(file, 1):
+            words = line.split()
+            if not words or words[0].startswith("#"):
+                continue
+            moment = 0
+            try:
+                if words[0][0].isdigit():
+                    moment = int(float(words.pop(0)) * 10**9)
+                words = words[1:] if words[:1] == ["cmd"] else words
+                tried.change(words)
+            except (Broken, IndexError, ValueError, OverflowError) as error:
+                raise Broken("%s line %d: not understood: %s (%s)" % (path, number, line.strip(), error)) from error
+            found.append((moment, words))
     return found
 
 
-def port_named(bridge, name):
-    return next(port for port in bridge.ports.values() if port.name == name)
+def mac_of(word):
+    if not re.fullmatch("([0-9A-Fa-f]{2}:){5}[0-9A-Fa-f]{2}", word):
+        raise Broken("no address: %s" % word)
+    return word.lower()
 
 
-def change(bridge, words):
-    """Does what a command of a scenario says."""
-    kind = words[0]
-    if kind == "bridge":
-        bridge.mac = bytes.fromhex(words[1].replace(":", ""))
-    elif kind == "port":
-        port = port_named(bridge, words[2])
-        port.state = {"up": kernel.FORWARDING, "down": 0}[words[1]]
-        port.vlans, port.flags = {1: (True, True)}, dict(kernel.FLAGS)
-    elif kind == "link":
-        port = port_named(bridge, words[1])
-        port.flags[words[2]] = {"on": 1, "off": 0}[words[3]] if words[2] in kernel.FLAGS else port.flags[words[2]]
-    elif kind == "vlan":
-        change_vlan(bridge, words)
-    elif kind in ("fdb", "mdb"):
-        change_entry(bridge, words)
-    elif kind == "ageing":
-        bridge.options["ageing_time"] = int(words[1]) * 100
-    elif kind == "snooping":
-        bridge.options["mcast_snooping"] = {"on": 1, "off": 0}[words[1]]
-    else:
-        raise ValueError(kind)
+def vid_of(word):
+    if not re.fullmatch("[0-9]{1,4}", word) or not 1 <= int(word) <= 4094:
+        raise Broken("no VLAN: %s" % word)
+    return int(word)
 
 
-def change_vlan(bridge, words):
-    """vlan add|del vid V dev DEV [pvid] [untagged]"""
-    vid, name, flags = int(words[3]), words[5], words[6:]
-    port = port_named(bridge, name) if name != "host" else None
-    vlans = dict(port.vlans if port else bridge.vlans_of_host())
-    if words[1] == "del":
-        vlans.pop(vid, None)
-    else:
-        if "pvid" in flags:
-            vlans = {each: (False, untagged) for each, (_, untagged) in vlans.items()}
-        vlans[vid] = "pvid" in flags, "untagged" in flags
-    if port:
-        port.vlans = vlans
-    else:
-        bridge.host_vlans = vlans
+def number_of(word, most):
+    if not re.fullmatch("[0-9]{1,9}", word) or not 1 <= int(word) <= most:
+        raise Broken("no number up to %d: %s" % (most, word))
+    return int(word)
 
 
-def change_entry(bridge, words):
-    """fdb add MAC dev DEV vlan V KIND, fdb del MAC vlan V, mdb add|del GROUP dev DEV vlan V"""
-    vid = int(words[words.index("vlan") + 1])
-    if words[:2] == ["fdb", "del"]:
-        bridge.fdb.pop((vid, words[2].lower()), None)
-        return
-    device = bridge.index if words[4] == "host" else port_named(bridge, words[4]).index
-    if words[0] == "fdb":
-        bridge.fdb[vid, words[2].lower()] = device, words[7]
-    elif words[1] == "add":
-        bridge.mdb[vid, words[2].lower(), device] = True
-    else:
-        bridge.mdb.pop((vid, words[2].lower(), device), None)
+def one_of(word, meanings):
+    if word not in meanings:
+        raise Broken("%s, and none of %s" % (word, ", ".join(meanings)))
+    return meanings[word]
+
+
+def words_like(words, form):
+    """The words in the places of `_` where all others are those of the form."""
+    form = form.split()
+    if len(words) != len(form) or any(want not in ("_", word) for word, want in zip(words, form)):
+        raise Broken("it isn't like: %s" % " ".join(form))
+    return [word for word, want in zip(words, form) if want == "_"]
+
+
+class Commands:
+    """Does what commands of a scenario say to a bridge."""
+
+    def __init__(self, bridge):
+        self.bridge = bridge
+
+    def change(self, words):
+        kinds = {"bridge": self.name_bridge, "port": self.port, "link": self.link, "vlan": self.vlan, "fdb": self.fdb, "mdb": self.mdb,
+                 "ageing": self.ageing, "snooping": self.snooping}
+        one_of(words[0], kinds)(words)
+
+    def port_named(self, name):
+        return one_of(name, {port.name: port for port in self.bridge.ports.values()})
+
+    def device_named(self, name):
+        return self.bridge.index if name == "host" else self.port_named(name).index
+
+    def name_bridge(self, words):
+        mac, = words_like(words, "bridge _")
+        self.bridge.mac = bytes.fromhex(mac_of(mac).replace(":", ""))
+        self.bridge.changes.options = True
+
+    def port(self, words):
+        state, name = words_like(words, "port _ _")
+        port = self.port_named(name)
+        port.state = one_of(state, {"up": kernel.FORWARDING, "down": 0})
+        port.flags = dict(kernel.FLAGS)
+        port.set_vlans({1: (True, True)})
+        self.bridge.changes.port(port.index)
+
+    def link(self, words):
+        name, flag, value = words_like(words, "link _ _ _")
+        port = self.port_named(name)
+        one_of(flag, kernel.FLAGS)
+        port.flags[flag] = one_of(value, {"on": 1, "off": 0})
+        self.bridge.changes.port(port.index, ())
+
+    def vlan(self, words):
+        """vlan add|del vid V dev DEV [pvid] [untagged]"""
+        flags = words[6:]
+        if one_of(words[1], {"add": "", "del": "x"}) and flags or flags not in ([], ["pvid"], ["untagged"], ["pvid", "untagged"], ["untagged", "pvid"]):
+            raise Broken("unknown words: %s" % " ".join(flags))
+        vid, name = words_like(words[2:6], "vid _ dev _")
+        port = self.port_named(name) if name != "host" else None
+        vlans = dict(port.vlans if port else self.bridge.vlans_of_host())
+        pvid = port.pvid if port else self.bridge.host_pvid
+        given = ("pvid" in flags, "untagged" in flags) if words[1] == "add" else None
+        _, changed = kernel.change_membership(vlans, pvid, vid_of(vid), given)
+        (port.set_vlans if port else self.bridge.set_host_vlans)(vlans)
+        self.bridge.changes.port(port.index if port else self.bridge.index, changed)
+
+    def fdb(self, words):
+        """fdb add MAC dev DEV vlan V KIND, fdb del MAC vlan V"""
+        if words[1] == "del":
+            mac, vid = words_like(words, "fdb del _ vlan _")
+        else:
+            mac, name, vid, kind = words_like(words, "fdb add _ dev _ vlan _ _")
+        key = vid_of(vid), mac_of(mac)
+        self.bridge.changes.addresses.add(key)
+        if words[1] == "del":
+            self.bridge.addresses.drop(key)
+        else:
+            entry = self.device_named(name), one_of(kind, {each: each for each in ("static", "local", "extern")})
+            self.bridge.addresses.put(key, entry)
+
+    def mdb(self, words):
+        """mdb add|del GROUP dev DEV vlan V"""
+        what, group, name, vid = words_like(words, "mdb _ _ dev _ vlan _")
+        address = ipaddress.ip_address(group)
+        if not address.is_multicast:
+            raise Broken("no group: %s" % group)
+        key = vid_of(vid), packets.group_text(address.packed), self.device_named(name)
+        self.bridge.changes.members.add(key)
+        if one_of(what, {"add": True, "del": False}):
+            self.bridge.groups.put(key, True)
+        else:
+            self.bridge.groups.drop(key)
+
+    def ageing(self, words):
+        value, = words_like(words, "ageing _")
+        self.bridge.options["ageing_time"] = number_of(value, 1000000) * 100
+        self.bridge.changes.options = True
+
+    def snooping(self, words):
+        value, = words_like(words, "snooping _")
+        self.bridge.options["mcast_snooping"] = one_of(value, {"on": 1, "off": 0})
+        self.bridge.changes.options = True

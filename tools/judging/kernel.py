@@ -133,7 +133,8 @@ class Bridge:
         self.by_source = {}   # (VLAN, group, source), as bytes -> device -> whether it doesn't want this source
         self.includes = set()  # keys of `mdb`: members that want named sources alone
         self.routers = set()  # devices
-        self.changes, self.unread = Changes(True), {}
+        self.locked = set()  # keys of `fdb`: entries by which no station may send
+        self.changes, self.unread, self.switch_ports = Changes(True), {}, set()
 
     def is_aware(self):
         return bool(self.options.get("vlan_filtering"))
@@ -164,6 +165,17 @@ class Bridge:
         """The keys of the members of a group: of (VLAN, group)."""
         return [key for key in ((*group_key, device) for device in (self.index, *self.ports)) if key in self.mdb]
 
+    def concerned(self, changes, table, keys):
+        """The keys of a table that may have another place or kind now: `keys`, and those at the ports and VLANs that changed."""
+        if changes.whole:
+            return set(table.entries)
+        found = set(keys)
+        for device, vids in changes.ports.items():
+            told = self.vlans_of_host() if device == self.index else self.vlans_of(self.ports[device]) if device in self.ports else ()
+            for vid in told if vids is None else vids:
+                found.update(table.at(device, vid if self.is_aware() else 0))
+        return found
+
     def describe(self):
         words = ["the bridge itself", vlan_words(self.vlans_of_host()) if self.is_aware() else "VLAN-unaware"]
         return "; ".join(words + (["promiscuous"] if self.promiscuous else []))
@@ -182,10 +194,6 @@ class Bridge:
     def counts(self, vid):
         """Whether entries of this VLAN count: those of number 0 are of a bridge that doesn't look at tags."""
         return self.is_aware() == (vid > 0)
-
-    def switches(self):
-        """The names of ports that belong to switches."""
-        return [port.name for port in self.ports.values() if port.switch]
 
 
 class Request:
@@ -323,11 +331,13 @@ class Kernel:
             self.leave(time, link.index)
         is_new = link.index not in bridge.ports
         port = bridge.ports.setdefault(link.index, Port(link.index, link.name))
-        self.bridge_of[link.index] = bridge.index
+        self.bridge_of[link.index], case.known_ports[link.index] = bridge.index, port
         before = port.state, dict(port.flags), dict(port.others)
         port.mac, port.mtu, port.switch = link.mac or port.mac, link.mtu or port.mtu, link.switch or port.switch
         port.take(link.port)
         port.unread.update(link.unread)
+        if link.switch:
+            bridge.switch_ports.add(port.name)
         if link.vlan_list is not None and link.vlan_list != port.vlan_list:
             self.port_vlans(bridge, port, link)
         if is_new or (port.state, port.flags, port.others) != before:
@@ -348,7 +358,6 @@ class Kernel:
             case.bridge.ports[index].state = 0
             case.bridge.changes.port(index)
             case.changed(time)
-            case.left_by(index)
             del case.bridge.ports[index]
 
     def vlan(self, time, told, gone):

@@ -5,6 +5,7 @@ host's. A querier of the bridge's own is the port QUERIER, at which queries ente
 """
 import re
 
+import kernel
 import packets
 
 HOST, QUERIER = 253, 254
@@ -17,28 +18,39 @@ SILENT = dict(FLAGS, learning=0, flood=0, mcast_flood=0, bcast_flood=0)
 class Item:
     """A line of the scenario: `begin` and `end` are the moments between which the kernel did what the command says, `frame` is the
     frame of the record that enters, `may_fail` says that a refusal is expected, `cut` is where tables are compared."""
+    __slots__ = ("text", "begin", "end", "frame", "may_fail", "cut")
 
     def __init__(self, text="", begin=0, end=0, frame=None, may_fail=False, cut=None):
         self.text, self.begin, self.end, self.frame, self.may_fail, self.cut = text, begin, end, frame, may_fail, cut
 
 
+PUBLISH, SERVE = Item("publish"), Item("serve")
+
+
 class Model:
-    def __init__(self):
+    """`before`: the model of the part of the record before this one, whose ports keep their numbers where they are among `present`."""
+
+    def __init__(self, before=None, present=()):
         self.items, self.start, self.clock = [], None, 0
         self.names, self.numbers, self.mac = {}, {}, None
+        if before:
+            self.mac = before.mac
+            self.numbers = {index: number for index, number in before.numbers.items() if index in present}
+            self.names = {number: before.names[number] for number in self.numbers.values()}
         self.up, self.flags, self.vlans = set(), {}, {"host": dict(DEFAULT_VLANS)}
         self.sources = set()  # of frames that entered, whose addresses may have been learned
         self.fdb, self.groups = {}, {}  # what commands made: (VLAN, address) -> (port, kind), and (VLAN, group, port)
         self.ageing, self.snooping, self.aware = 300, True, None
         self.moments = (0, 0)  # of the change that is being mirrored
-        self.forgotten = set()  # (port, VLAN) whose learned entries went with a command that keeps them in the kernel
+        self.forgotten = set()  # (device, VLAN) whose learned entries went with a command that keeps them in the kernel
+        self.size = self.weight = 0  # bytes of its lines, and at least as many as the changes that they make
 
     # ---- lines ----
 
     def number(self, port):
         """The number of a port, and its name in the scenario."""
         if port.index not in self.numbers:
-            number = len(self.numbers) + 1
+            number = next(number for number in range(1, len(self.names) + 2) if number not in self.names)
             self.numbers[port.index] = number
             fits = re.fullmatch(r"[A-Za-z0-9._-]{1,15}", port.name or "") and port.name not in ("host", "HOST", "QUERIER")
             self.names[number] = port.name if fits and port.name not in self.names.values() else "port%d" % number
@@ -49,6 +61,10 @@ class Model:
 
     def number_named(self, name):
         return next(number for number, each in self.names.items() if each == name)
+
+    def has_room(self, ports):
+        """Whether there is a number for each of these ports."""
+        return len(self.numbers) + sum(1 for index in ports if index not in self.numbers) <= MOST_PORTS
 
     def head(self):
         lines = ["scenario 1"] + (["bridge " + self.mac.hex(":")] if self.mac else [])
@@ -62,32 +78,42 @@ class Model:
         if moment > self.clock:
             self.clock = moment
             self.items.append(Item("now %d" % moment))
+            self.size += 16
 
-    def command(self, words, may_fail=False):
+    def command(self, words, may_fail=False, weight=1):
         self.at(self.moments[1])
         self.items.append(Item("cmd " + words, *self.moments, may_fail=may_fail))
+        self.size += len(words) + 5
+        self.weight += weight
 
     def enter(self, time, number, digits, frame=None):
         self.at(time)
-        self.sources.add(":".join(digits[at:at + 2] for at in range(12, 24, 2)))
-        self.items += [Item("publish"), Item("rx %d %s" % (number, digits), frame=frame), Item("serve")]
+        self.sources.add(digits[12:24])
+        self.items += [PUBLISH, Item("rx %d %s" % (number, digits), frame=frame), SERVE]
+        self.size += len(digits) + 32
+        self.weight += 2
 
     # ---- the configuration ----
 
     def sync(self, bridge, begin, end):
-        """Brings the scenario to what the kernel has, which changed between these moments."""
+        """Brings the scenario to what the kernel has, of which `bridge.changes` changed between these moments."""
         self.moments = begin, end
+        changes, bridge.changes = bridge.changes, kernel.Changes()
         if bridge.mac:
             self.mac = self.mac or bridge.mac
-        if self.aware not in (None, bridge.is_aware()):
-            self.clear()
-        self.aware = bridge.is_aware()
-        self.sync_options(bridge)
-        self.sync_host(bridge)
-        for port in list(bridge.ports.values()):
-            self.sync_port(bridge, port)
-        self.sync_addresses(bridge)
-        self.sync_groups(bridge)
+        if self.aware != bridge.is_aware():
+            self.clear() if self.aware is not None else None
+            self.aware = bridge.is_aware()
+            changes = kernel.Changes(True)
+        if changes.options:
+            self.sync_options(bridge)
+        if changes.options or bridge.index in changes.ports:
+            self.sync_host(bridge)
+        for index in bridge.ports if changes.whole else changes.ports:
+            if index in bridge.ports:
+                self.sync_port(bridge, bridge.ports[index], changes.ports.get(index))
+        self.sync_addresses(bridge, changes)
+        self.sync_groups(bridge, changes)
 
     def clear(self):
         """Forgets all, since entries of a bridge that looks at tags and of one that doesn't are others."""
@@ -113,9 +139,10 @@ class Model:
                 self.sync_flags(name, SILENT)
         self.sync_flags("HOST", dict(SILENT, flood=int(bridge.promiscuous), mcast_flood=int(bridge.promiscuous)))
         for name in ("host", "HOST"):
-            self.sync_vlans(name, bridge.vlans_of_host())
+            self.sync_vlans(name, bridge.index, bridge.vlans_of_host())
 
-    def sync_port(self, bridge, port):
+    def sync_port(self, bridge, port, vids=None):
+        """`vids`: the VLANs that changed, or None for all."""
         name = self.name(port)
         if not port.is_up():
             if name in self.up:
@@ -124,21 +151,22 @@ class Model:
         if name not in self.up:
             self.port_up(name)
             # what was learned before the port forwards
-            self.forgotten |= {(name, vid) for vid in bridge.vlans_of(port)}
-        self.sync_vlans(name, bridge.vlans_of(port))
+            self.forgotten |= {(port.index, vid) for vid in bridge.vlans_of(port)}
+            vids = None
+        self.sync_vlans(name, port.index, bridge.vlans_of(port), vids)
         self.sync_flags(name, port.flags)
 
     def port_up(self, name):
-        self.command("port up " + name)
+        self.command("port up " + name, weight=4)
         self.up.add(name)
         self.flags[name], self.vlans[name] = dict(FLAGS), dict(DEFAULT_VLANS)
 
     def port_down(self, name):
-        self.command("port down " + name)
-        self.up.discard(name)
-        del self.flags[name], self.vlans[name]
         self.fdb = {key: value for key, value in self.fdb.items() if value[0] != name}
         self.groups = {key: value for key, value in self.groups.items() if key[2] != name}
+        self.command("port down " + name, weight=4 + len(self.vlans[name]))
+        self.up.discard(name)
+        del self.flags[name], self.vlans[name]
 
     def sync_flags(self, name, want):
         for flag, value in want.items():
@@ -146,31 +174,34 @@ class Model:
                 self.command("link %s %s %s" % (name, flag, "on" if value else "off"))
                 self.flags[name][flag] = value
 
-    def sync_vlans(self, name, want):
+    def sync_vlans(self, name, device, want, vids=None):
         have = self.vlans[name]
-        for vid, (pvid, _) in want.items():
-            if pvid and vid not in have:  # the PVID moves by itself
+        concerned = sorted(want.keys() | have.keys() if vids is None or self.aware is False else vids)
+        for vid in concerned:
+            if want.get(vid, (False,))[0] and vid not in have:  # the PVID moves by itself
                 self.vlan_add(name, vid, want[vid])
-                have.update({each: (False, untagged) for each, (_, untagged) in have.items() if each != vid})
-        for vid in sorted(have):
-            if want.get(vid) != have[vid]:
+                have.update({each: (False, untagged) for each, (pvid, untagged) in have.items() if pvid and each != vid})
+        for vid in concerned:
+            if vid in have and want.get(vid) != have[vid]:
                 self.vlan_del(name, vid)
                 if vid in want:
-                    self.forgotten.add((name, vid))
-        for vid in sorted(want):
-            if vid not in have:
+                    self.forgotten.add((device, vid))
+        for vid in concerned:
+            if vid in want and vid not in have:
                 self.vlan_add(name, vid, want[vid])
 
     def vlan_add(self, name, vid, flags):
         pvid, untagged = flags
-        self.command("vlan add vid %d dev %s%s%s" % (vid, name, " pvid" if pvid else "", " untagged" if untagged else ""))
+        self.command("vlan add vid %d dev %s%s%s" % (vid, name, " pvid" if pvid else "", " untagged" if untagged else ""), weight=2)
         self.vlans[name][vid] = flags
 
     def vlan_del(self, name, vid):
-        self.command("vlan del vid %d dev %s" % (vid, name))
+        self.command("vlan del vid %d dev %s" % (vid, name), weight=2)
         del self.vlans[name][vid]
-        self.fdb = {key: value for key, value in self.fdb.items() if key[0] != vid or value[0] != name}
-        self.groups = {key: value for key, value in self.groups.items() if key[0] != vid or key[2] != name}
+        for key in [key for key, value in self.fdb.items() if key[0] == vid and value[0] == name]:
+            del self.fdb[key]
+        for key in [key for key in self.groups if key[0] == vid and key[2] == name]:
+            del self.groups[key]
 
     def place(self, bridge, device, vid):
         """The name of a device where the scenario can have entries of it in that VLAN, or None."""
@@ -178,38 +209,44 @@ class Model:
         name = "host" if device == bridge.index else self.name(port) if port and port.is_up() else None
         return name if name and vid in self.vlans.get(name, {}) else None
 
-    def sync_addresses(self, bridge):
-        want = {}
-        for (vid, mac), (device, kind) in bridge.fdb.items():
-            if not bridge.counts(vid) or kind == "learned":
-                continue
-            name = self.place(bridge, bridge.index if kind == "local" else device, vid or 1)
-            if name:
-                want[vid or 1, mac] = name, "local" if name == "host" else kind
-        for vid, mac in [key for key in self.fdb if want.get(key) != self.fdb[key]]:
+    def sync_addresses(self, bridge, changes):
+        keys = bridge.concerned(changes, bridge.addresses, changes.addresses)
+        want = {(vid or 1, mac): self.wanted_address(bridge, vid, mac) for vid, mac in keys if bridge.counts(vid)}
+        for key in self.fdb if changes.whole else ():
+            want.setdefault(key, None)
+        for vid, mac in [key for key in want if key in self.fdb and want[key] != self.fdb[key]]:
             self.command("fdb del %s vlan %d" % (mac, vid))
             del self.fdb[vid, mac]
-        for (vid, mac), (name, kind) in sorted(want.items()):
-            if (vid, mac) not in self.fdb:
-                if mac in self.sources:
-                    self.forget(vid, mac)
-                self.command("fdb add %s dev %s vlan %d %s" % (mac, name, vid, kind))
-                self.fdb[vid, mac] = name, kind
+        for vid, mac in sorted(key for key in want if want[key] and key not in self.fdb):
+            name, kind = want[vid, mac]
+            if mac.replace(":", "") in self.sources:
+                self.forget(vid, mac)
+            self.command("fdb add %s dev %s vlan %d %s" % (mac, name, vid, kind))
+            self.fdb[vid, mac] = name, kind
 
-    def sync_groups(self, bridge):
+    def wanted_address(self, bridge, vid, mac):
+        """The port and the kind of an entry that a command makes, or None."""
+        device, kind = bridge.fdb.get((vid, mac), (None, "learned"))
+        if kind == "learned":
+            return None
+        name = self.place(bridge, bridge.index if kind == "local" else device, vid or 1)
+        return (name, "local" if name == "host" else kind) if name else None
+
+    def sync_groups(self, bridge, changes):
         want = {}
-        for (vid, group, device), by_command in bridge.mdb.items():
-            if by_command and bridge.counts(vid):
+        for vid, group, device in bridge.concerned(changes, bridge.groups, changes.members):
+            if bridge.counts(vid):
                 name = self.place(bridge, device, vid or 1)
                 if name:
-                    want[vid or 1, group, name] = True
-        for vid, group, name in [key for key in self.groups if key not in want]:
+                    want[vid or 1, group, name] = bool(bridge.mdb.get((vid, group, device)))
+        for key in self.groups if changes.whole else ():
+            want.setdefault(key, False)
+        for vid, group, name in [key for key in want if key in self.groups and not want[key]]:
             self.command("mdb del %s dev %s vlan %d" % (group, name, vid))
             del self.groups[vid, group, name]
-        for vid, group, name in sorted(want):
-            if (vid, group, name) not in self.groups:
-                self.command("mdb add %s dev %s vlan %d" % (group, name, vid))
-                self.groups[vid, group, name] = True
+        for vid, group, name in sorted(key for key in want if want[key] and key not in self.groups):
+            self.command("mdb add %s dev %s vlan %d" % (group, name, vid))
+            self.groups[vid, group, name] = True
 
     # ---- what the bridge learned ----
 

@@ -5,13 +5,12 @@ that the kernel must use then, and the frame doesn't enter the scenario. Of othe
 tests as narrowly as a record allows: an unnamed difference is unexplained. `react` sets the scenario right behind a frame of which it is
 known that the two go on differently.
 """
+import bisect
 import collections
 
 import kernel
 import packets
 
-NEAR = 10 * 10**6        # ns round a change, within which a frame may be decided by the tables of either side
-LATE = 20 * 10**9        # ns: how late the kernel's timers of some hundred seconds end something, at most
 HOLDS = 255 * 10**9      # ns: how long a querier or a router port is known
 OWN_LATE = 10**9         # ns: how late the querier of the bridge begins, at most
 MEMBERSHIP, LEAVE = 255 * 10**9, 19 * 10**8  # ns without a report, or behind a leave, from which a membership may be due
@@ -22,6 +21,7 @@ AT_ENTRY, AT_EXIT = ("vlan_tunnel", "mrp_ring", "mab"), ("vlan_tunnel", "mcast_t
 QUESTIONS = ("neigh_suppress", "proxyarp")
 LEFT_OUT = QUESTIONS + AT_EXIT + ("mab",)
 PROMISCUOUS, BY_SOURCES = "left out: a promiscuous host", "left out: sources (S,G)"
+TOO_LONG = "left out: longer than the MTU of a port"
 SETTINGS = LEFT_OUT + ("hairpin", "mcast_router")
 SOON = 5 * 10**7         # ns within which the kernel tells all of one change
 DEFAULT_TIMES = {"last_member_interval": 100, "membership_interval": 26000, "querier_interval": 25500}
@@ -39,10 +39,12 @@ def has_own_times(bridge):
     return any(bridge.options.get(name, usual) != usual for name, usual in DEFAULT_TIMES.items())
 
 
-def unfit(bridge, data, by_host):
+def unfit(bridge, data, length, by_host):
     """Why a frame isn't judged, or None."""
-    if len(data) > packets.LONGEST:
+    if length > packets.LONGEST:
         return "longer than %d bytes" % packets.LONGEST
+    if len(data) < packets.SHORTEST:
+        return "shorter than %d bytes" % packets.SHORTEST
     if bridge.options.get("vlan_protocol", 0x8100) != 0x8100:
         return "the bridge's VLANs are of 802.1ad"
     if bridge.has_option(kernel.MST):
@@ -63,7 +65,8 @@ Heard = collections.namedtuple("Heard", "routers others late passed passed_here 
 class Snooped:
     """What the messages of the record say of queriers and routers."""
 
-    def __init__(self):
+    def __init__(self, bounds):
+        self.bounds = bounds
         self.querier = {4: (None, 0, 0), 6: (None, 0, 0)}  # the address, until when it is known, and until when it waits
         self.routers = {4: {}, 6: {}}  # number -> until when
         self.announced, self.passed_over = {}, {4: {}, 6: {}}
@@ -88,10 +91,22 @@ class Snooped:
         return self.querier[version][1] > time
 
     def asked_of(self, time, group):
-        return time - self.asked.get(group, -LATE) < LATE
+        return time - self.asked.get(group, -self.bounds.late) < self.bounds.late
 
-    def told_router(self, number):
-        self.told.add(number)
+    def keep(self, numbers):
+        """Forgets the ports that have no number any more."""
+        kept = {0, *numbers}
+        for moments in (*self.routers.values(), *self.passed_over.values(), self.announced):
+            for number in moments.keys() - kept:
+                del moments[number]
+        self.told &= kept
+        self.flushed &= kept
+
+    def living_routers(self, time):
+        """(moment, version, number) of each querier that is known: when it was heard, and where."""
+        for version, ports in self.routers.items():
+            for number in living(ports, time):
+                yield ports[number] - HOLDS, version, number
 
     def own_querier_off(self, time):
         self.own_off = time
@@ -106,9 +121,10 @@ class Snooped:
         if version is None:
             return None
         here, passed = living(self.routers[version], time), {each: living(self.passed_over[each], time) for each in (4, 6)}
-        return Heard(here, living(self.routers[10 - version], time), living(self.routers[version], time - LATE) - here, passed[4] | passed[6],
-                     passed[version], living(self.announced, time), frozenset(self.told), frozenset(self.flushed), self.knows(version, time),
-                     self.querier[version][2] > time - NEAR, self.own_off)
+        late = living(self.routers[version], time - self.bounds.late) - here
+        return Heard(here, living(self.routers[10 - version], time), late, passed[4] | passed[6], passed[version],
+                     living(self.announced, time), frozenset(self.told), frozenset(self.flushed), self.knows(version, time),
+                     self.querier[version][2] > time - self.bounds.near, self.own_off)
 
 
 def living(moments, time):
@@ -116,7 +132,8 @@ def living(moments, time):
 
 
 def is_near_change(case, time):
-    return any(abs(time - change) < NEAR for change in case.changes)
+    at = bisect.bisect_left(case.changes, time - case.bounds.near + 1)
+    return at < len(case.changes) and case.changes[at] < time + case.bounds.near
 
 
 def sends(case, view, ports):
@@ -126,15 +143,38 @@ def sends(case, view, ports):
     return (view.snooping or is_near_change(case, view.time)) and is_of_tables(view, ports)
 
 
-def is_of_tables(view, ports):
-    """Whether these ports are those of members and routers."""
+def of_tables(view):
+    """The ports of members and routers: those by which the frame leaves, and those by which it may leave, too."""
     members = view.wanted & view.reachable if view.is_payload else set()
     heard, known = view.heard, view.routers | {0}
     possible = (heard.routers | heard.late | heard.announced | heard.told | view.router_settings) & known
     sure = heard.routers & view.routers - heard.told - heard.passed - view.router_settings
     if view.has_own_times:
         possible, sure = known, set()
-    return members | sure & view.reachable <= ports and ports - members <= possible & view.reachable
+    return members | sure & view.reachable, members | possible & view.reachable
+
+
+def is_of_tables(view, ports):
+    """Whether these ports are those of members and routers."""
+    least, most = of_tables(view)
+    return least <= ports <= most
+
+
+# differences that say by which ports a frame leaves in Linux, and no other way was named so
+EXACT = {"teach-first", "own-address", "link-down", "leave-flood", "query-delay", PROMISCUOUS, TOO_LONG}
+
+
+def is_checked(frame, name, linux):
+    """Whether the name says by which ports the frame leaves in Linux: by just those it left by."""
+    view = frame.view
+    if frame.expected is not None or name in EXACT:
+        return True
+    if name == "host-floods":
+        return linux == view.reachable
+    if not view.is_group or view.heard is None:
+        return name in ("vlan-del-keeps", "late-end")
+    least, most = of_tables(view)
+    return view.snooping and least == most == linux
 
 
 def router_differences(view):
@@ -149,87 +189,114 @@ def router_differences(view):
     yield "left out: a router port from before the record", set(), heard.told
 
 
-class View:
-    """What the kernel's tables said of a frame when it entered: numbers of ports, 0 is the host."""
+class Place:
+    """What the configuration says of the frames of a VLAN that enter at a device: numbers of ports, 0 is the host."""
+    __slots__ = ("port", "vid", "admitted", "on", "options", "others", "host_in_vlan", "reachable", "quiet", "flood", "router_settings",
+                 "routers", "blocked", "forwards", "promiscuous", "snooping", "is_aware", "smallest_mtu", "has_own_times",
+                 "switches")
 
-    def __init__(self, case, number, device, data, time):
+    def __init__(self, case, number, device, tag):
         bridge, model = case.bridge, case.model
-        self.number, self.device, self.time, self.data = number, device, time, data
         self.port = bridge.ports.get(device)
         name = model.name(self.port) if self.port else "HOST"
         vlans = model.vlans.get(name, {})
-        self.vid = packets.vid_of(data) or next((vid for vid, (pvid, _) in vlans.items() if pvid), 0)
+        self.vid = tag or next((vid for vid, (pvid, _) in vlans.items() if pvid), 0)
         self.admitted = self.vid in vlans
-        self.key = self.vid if bridge.is_aware() else 0, data[:6].hex(":")
-        self.source_entry = bridge.fdb.get((self.key[0], data[6:12].hex(":")))
-        self.entry = bridge.fdb.get(self.key)
-        self.entry_number, self.entry_place = self.place_of_entry(case)
-        learned = bool(self.entry) and self.entry[1] == "learned"
-        self.is_old, self.is_late = learned and is_due(case, self.key, time), learned and is_late(case, self.key, time)
-        self.learns = bool(self.port) and bool(self.port.flags["learning"])
         self.on, self.options = case.settings_on(), case.options_now()
-        self.promiscuous, self.snooping = bridge.promiscuous, bridge.is_snooping()
+        self.promiscuous, self.snooping, self.is_aware = bridge.promiscuous, bridge.is_snooping(), bridge.is_aware()
         self.host_in_vlan = self.vid in model.vlans["host"]
-        self.others = {case.number_of(each.index): each for each in bridge.ports.values()}
-        self.reachable = self.find_reachable(case)
-        self.quiet = self.find_quiet(case)
-        self.flood = self.flooded()
-        self.find_members(case, data)
+        self.others = case.cache("others", lambda: {case.number_of(each.index): each for each in bridge.ports.values()})
+        self.reachable = self.find_reachable(case, number)
+        # the ports that could be reached with `mcast_flood off`
+        self.quiet = {each for each in self.reachable if each and not model.flags[model.name(self.others[each])]["mcast_flood"]}
+        # where a frame to a group leaves that is flooded; of what the host sends that leaves no port out
+        self.flood = self.reachable - self.quiet if self.port else self.reachable
         self.router_settings = self.on["mcast_router"] | ({0} if bridge.options.get("mcast_router", 1) != 1 else set())
-        self.routers = {case.number_of(device) for device in bridge.routers if device in bridge.ports}
-        self.heard, self.has_own_times = case.snooped.at(self.version(), time), has_own_times(bridge)
-        self.own_since = case.own_querier_since
-        message = packets.message_of(data)
-        self.is_payload = message is None or message.kind == "other"
+        self.routers = {case.number_of(each) for each in bridge.routers if each in bridge.ports}
         self.blocked = {n for n, each in self.others.items() if each.vlan_states.get(self.vid, kernel.FORWARDING) != kernel.FORWARDING}
         self.forwards = bool(self.port and self.port.others.get("group_fwd_mask", 0) | bridge.options.get("group_fwd_mask", 0))
+        self.smallest_mtu = min((each.mtu for each in self.others.values() if each.mtu), default=packets.LONGEST)
+        self.has_own_times = has_own_times(bridge)
+        self.switches = {number: each.switch for number, each in self.others.items() if each.switch}
+
+    def find_reachable(self, case, number):
+        """The ports by which a frame of this VLAN may leave at all."""
+        if not self.admitted:
+            return set()
+        ports = {0} if self.port and self.host_in_vlan else set()
+        for other, port in self.others.items():
+            flags = case.model.flags.get(case.model.name(port))
+            isolated = flags and flags["isolated"] and self.port and self.port.flags["isolated"]
+            if flags and (other != number or port.has("hairpin")) and self.is_in_vlan(case, port) and not isolated:
+                ports.add(other)
+        return ports
+
+    def is_in_vlan(self, case, port):
+        return self.vid in case.model.vlans.get(case.model.name(port), {})
+
+
+class View:
+    """What the kernel's tables said of a frame when it entered: numbers of ports, 0 is the host. `place` has what the configuration said."""
+    __slots__ = ("place", "number", "device", "time", "data", "length", "key", "source", "source_entry", "entry", "entry_number", "entry_place",
+                 "is_old", "is_late", "is_group", "group", "members", "has_sources", "due", "unreachable", "wanted", "heard", "own_since",
+                 "is_payload", "is_locked")
+
+    def __init__(self, case, number, device, data, time, length):
+        bridge, tag = case.bridge, packets.vid_of(data)
+        self.number, self.device, self.time, self.data, self.length = number, device, time, data, length
+        self.place = case.cache((number, tag), lambda: Place(case, number, device, tag))
+        vid = self.place.vid if self.place.is_aware else 0
+        self.key, self.source = (vid, data[:6].hex(":")), (vid, data[6:12].hex(":"))
+        self.source_entry, self.entry = bridge.fdb.get(self.source), bridge.fdb.get(self.key)
+        self.is_locked = self.source in bridge.locked
+        self.entry_number, self.entry_place = self.place_of_entry(case) if self.entry else (None, None)
+        learned = bool(self.entry) and self.entry[1] == "learned"
+        self.is_old, self.is_late = learned and is_due(case, self.key, time), learned and is_late(case, self.key, time)
+        self.is_group, self.own_since = packets.is_group(data), case.own_querier_since
+        self.group, self.members, self.has_sources, self.due, self.unreachable, self.wanted = b"", {}, False, set(), set(), set()
+        self.heard, self.is_payload = None, True
+        if data[0] & 1:
+            self.look_at_group(case, data, time)
+
+    def __getattr__(self, name):
+        return getattr(self.place, name)
+
+    def look_at_group(self, case, data, time):
+        self.find_members(case, data)
+        self.heard = case.snooped.at(self.version(), time)
+        message = packets.message_of(data)
+        self.is_payload = message is None or message.kind == "other"
+
+    def learns(self):
+        return bool(self.place.port) and bool(self.place.port.flags["learning"])
+
+    def too_small(self):
+        """The ports that take no frame as long as this one."""
+        if self.length <= self.place.smallest_mtu + packets.HEADER:
+            return set()
+        return {number for number, port in self.place.others.items() if port.mtu and self.length > port.mtu + packets.HEADER}
 
     def place_of_entry(self, case):
         """The number of the port where the kernel has the destination, and whether that is "host", "down", "outside" of the VLAN or
         "here"."""
-        if self.entry is None:
-            return None, None
         device, kind = self.entry
         if kind == "local" or device == case.bridge.index:
             return 0, "host"
         port = case.bridge.ports.get(device)
         if port is None or not port.is_up():
             return None, "down"
-        return case.number_of(device), "here" if self.is_in_vlan(case, port) else "outside"
-
-    def find_reachable(self, case):
-        """The ports by which a frame of this VLAN may leave at all."""
-        if not self.admitted:
-            return set()
-        ports = {0} if self.port and self.host_in_vlan else set()
-        for number, port in self.others.items():
-            flags = case.model.flags.get(case.model.name(port))
-            isolated = flags and flags["isolated"] and self.port and self.port.flags["isolated"]
-            if flags and (number != self.number or port.has("hairpin")) and self.is_in_vlan(case, port) and not isolated:
-                ports.add(number)
-        return ports
-
-    def flooded(self):
-        """Where a frame of this VLAN to a group leaves that is flooded; of what the host sends that leaves no port out."""
-        return self.reachable - self.quiet if self.port else self.reachable
-
-    def find_quiet(self, case):
-        """The ports that could be reached with `mcast_flood off`."""
-        return {number for number in self.reachable if number and not case.model.flags[case.model.name(self.others[number])]["mcast_flood"]}
-
-    def is_in_vlan(self, case, port):
-        return self.vid in case.model.vlans.get(case.model.name(port), {})
+        return case.number_of(device), "here" if self.place.is_in_vlan(case, port) else "outside"
 
     def find_members(self, case, data):
         """The group of the packet, with its members in the kernel: number -> key."""
-        found = packets.addresses(data) if data[0] & 1 else None
+        found = packets.addresses(data)
         self.group = found[1] if found else b""
-        text = packets.group_text(self.group)
-        self.members = {case.number_of(device): (vid, group, device) for vid, group, device in case.bridge.mdb
-                        if (vid, group) == (self.key[0], text) and (device == case.bridge.index or device in case.bridge.ports)}
+        keys = case.bridge.members_at((self.key[0], packets.group_text(self.group)))
+        self.members = {case.number_of(key[2]): key for key in keys}
         self.has_sources = (self.key[0], self.group) in case.bridge.sources
         self.due = {number for number, key in self.members.items() if is_due(case, key, self.time)}
-        self.unreachable = {number for number in self.members if number and not self.is_in_vlan(case, self.others[number])}
+        others = self.place.others
+        self.unreachable = {number for number in self.members if number and not self.place.is_in_vlan(case, others[number])}
         self.wanted = self.find_wanted(case, found[0]) if found else set()
 
     def find_wanted(self, case, source):
@@ -256,7 +323,7 @@ def expected(case, frame, data):
     if packets.tag_of(data) and len(data) < 19:
         return Expected("short-tag", set(), False)
     if port and port.has("locked") and not packets.is_reserved(data) and view.admitted:
-        if view.source_entry is None or view.source_entry[0] != port.index or view.source_entry[1] == "local":
+        if view.source_entry is None or view.source_entry[0] != port.index or view.source_entry[1] == "local" or view.is_locked:
             return Expected("locked", set(), False)
     if view.snooping and view.admitted and packets.is_group(data) and not packets.is_reserved(data):
         return expected_of_group(view, data)
@@ -368,7 +435,7 @@ def of_odd_message(case, key, came):
 
 def went_soon(case, key, time):
     """Whether the kernel ended it by itself soon afterwards."""
-    return any(time < gone < time + LATE for gone in case.gone.get(key, ()))
+    return any(time < gone < time + case.bounds.late for gone in case.gone.get(key, ()))
 
 
 def is_due(case, key, time):
@@ -383,13 +450,13 @@ def is_due(case, key, time):
 def is_late(case, key, time):
     """Whether the time of an address was over a moment ago, so that the kernel may still have it."""
     heard = case.heard.get(key)
-    return len(key) == 2 and heard is not None and 0 <= time - heard - case.bridge.options.get("ageing_time", 30000) * 10**7 < LATE
+    return len(key) == 2 and heard is not None and 0 <= time - heard - case.bridge.options.get("ageing_time", 30000) * 10**7 < case.bounds.late
 
 
 def of_unicast(case, frame, ours, linux):
     view = frame.view
     heard = linux - ({0} if view.promiscuous else set())
-    if frame.data[:6] == frame.data[6:12] and view.learns and heard <= {view.number} & view.on["hairpin"]:
+    if frame.data[:6] == frame.data[6:12] and view.learns() and heard <= {view.number} & view.on["hairpin"]:
         return "teach-first"
     if heard:
         ends_late = view.is_late or view.is_old and went_soon(case, view.key, view.time)
@@ -505,6 +572,8 @@ def may_change(setting, view, ports):
 def of_settings(frame, ours, linux):
     """A setting of a port that the scenario lacks."""
     view = frame.view
+    if ours - linux and not linux - ours and ours - linux == ours & view.too_small():
+        return TOO_LONG
     if view.number in view.on["hairpin"] and linux - ours == {view.number} and not ours - linux:
         return "left out: hairpin"
     for setting in LEFT_OUT:

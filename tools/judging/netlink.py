@@ -127,7 +127,7 @@ def bridge_options(data, order, unread):
         if each == 46:
             options["multi_boolopt"] = number(value[:4], order)
         elif each == 47:
-            options["querier_state"] = dict(attributes(value, order))
+            options["querier_state"] = {kind: number(inner, order) for kind, inner in attributes(value, order)}
         elif each == 8:
             options["vlan_protocol"] = int.from_bytes(value, "big")
         elif each in OPTIONS:

@@ -7,7 +7,9 @@ sys.path.append(os.path.join(os.path.dirname(os.path.abspath(__file__)), "../../
 import frames
 
 TAG = b"\x81\x00"
-LONGEST = 9022
+LONGEST, SHORTEST = 9022, 14
+HEADER = 18  # bytes of a frame beyond its MTU: the Ethernet header, and a tag
+KEPT = 60    # bytes without tag that are kept of a frame whose payload decides nothing, and of a shortened one
 V4, V6 = 0x0800, 0x86DD
 ALL_NODES = {4: bytes([224, 0, 0, 1]), 6: bytes.fromhex("ff02" + "00" * 13 + "01")}
 # version: 4 or 6; kind: "report", "leave", "records", "query" or "other"; groups: those that it names, as bytes, and leaves those that
@@ -22,6 +24,42 @@ def bare(data):
 
 def tag_of(data):
     return data[12:16] if data[12:14] == TAG else b""
+
+
+def head(data, size):
+    """The first bytes of a frame, so many beside its tag; zeros where it has fewer."""
+    size += 4 if data[12:14] == TAG else 0
+    return data[:size].ljust(size, b"\0")
+
+
+def deciding(data, length):
+    """The bytes of a frame that decide where it goes, as long as it was: payload to one station or to all decides nothing, and isn't kept. None
+    where too few were recorded."""
+    if len(data) < SHORTEST:
+        return None
+    untagged = length - (4 if data[12:14] == TAG else 0)
+    if not is_group(data) or kind_of(data) not in (V4, V6):
+        return head(data, min(KEPT, untagged)) if len(data) < length or untagged > KEPT else data
+    if len(data) == length:
+        return data
+    return None if may_be_message(data) or len(data) < KEPT else head(data, KEPT).ljust(length, b"\0")
+
+
+def may_be_message(data):
+    """Whether it is IGMP, or may be MLD."""
+    return (header_of(bare(data)) or (4, 0, 2))[0::2] in ((4, 2), (6, 0))
+
+
+def parted(data, length):
+    """What frames have in common that are the same but for their tag, and the rest of their bytes, or None where it wasn't recorded."""
+    whole = bare(data)
+    key = whole[:KEPT], length - (len(data) - len(whole))
+    return key, whole[KEPT:] if len(data) == length else None
+
+
+def joined_words(name):
+    """Why a frame of more bytes than a device takes isn't judged."""
+    return "joined by the kernel, so above the MTU (`ethtool -K %s gro off gso off tso off`)" % name
 
 
 def vid_of(data):

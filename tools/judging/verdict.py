@@ -5,14 +5,15 @@ import subprocess
 
 import named
 import packets
-from model import HOST, QUERIER, Item
+from model import HOST, PUBLISH, QUERIER, SERVE, Item
 
 PROGRAM = os.environ.get("SWITCHBR", os.path.join(os.path.dirname(os.path.abspath(__file__)), "../../crates/switchbr/out/switchbr"))
 MOST_PLACES = 64
 MOST_SECONDS = 600
+MOST_TRIED = 3 * 10**7  # lines that are replayed for frames near changes, at most
 
-# frame, and what is compared: sets of (number, bytes)
-Difference = collections.namedtuple("Difference", "frame ours linux name")
+# frame, and what is compared: sets of (number, bytes); names: of the ports, by number; is_checked: whether the name says how Linux decides it
+Difference = collections.namedtuple("Difference", "frame ours linux name is_checked names")
 Row = collections.namedtuple("Row", "time table text side name")
 
 
@@ -22,10 +23,12 @@ class Broken(Exception):
 
 def run(words, lines):
     done = subprocess.run([PROGRAM, *words], input=("\n".join(lines) + "\n").encode(), stdout=subprocess.PIPE, timeout=MOST_SECONDS)
-    out = done.stdout.decode().splitlines()
+    out = done.stdout.decode(errors="replace").splitlines()
     if done.returncode:
-        number = out[-1].split()[1] if out and out[-1].startswith("bad") else ""
-        raise Broken("%s: %s" % (out[-1] if out else "no answer", lines[int(number) - 1][:200] if number.isdigit() else ""))
+        words = out[-1].split() if out else []
+        number = int(words[1]) if words[:1] == ["bad"] and words[1:2] and words[1].isdigit() else 0
+        line = lines[number - 1][:200] if 0 < number <= len(lines) else ""
+        raise Broken("switchbr doesn't take the scenario: %s%s" % (out[-1] if out else "status %d" % done.returncode, ": " * bool(line) + line))
     return out
 
 
@@ -43,34 +46,34 @@ class Outcome:
 
     def __init__(self, head, items):
         self.items = list(flat(items))
-        self.frames, self.steps = {}, {}
-        steps = frames = 0
-        for item in self.items:
-            steps += 1
-            self.steps[steps] = item
-            if item.text.startswith("rx "):
-                frames += 1
-                self.frames[frames] = item.frame
-        self.sent, self.refused, self.by_number, self.last = collections.defaultdict(set), [], {}, frames
+        self.frames = [item.frame for item in self.items if item.text.startswith("rx ")]
+        self.sent, self.refused, self.by_number = collections.defaultdict(set), [], {}
         self.lines = head + [item.text for item in self.items] + ["end"]
 
     def replay(self):
         told = run(["replay"], self.lines)
         self.by_number = sent_by_number(told)
         for number, sent in self.by_number.items():
-            self.sent[self.frames[number]] |= sent
+            if self.frames[number - 1] is not None:
+                self.sent[self.frames[number - 1]] |= sent
         refused = [line.split(" ") for line in told if line.startswith("refused ")]
-        self.refused = [(self.steps[int(step)].text, why) for _, step, why in refused if not self.steps[int(step)].may_fail]
+        steps = [(self.items[int(step) - 1], why) for _, step, why in refused]
+        self.refused = [(item.text, why) for item, why in steps if not item.may_fail]
         return self
+
+    def last_sent(self):
+        """What left of the last frame."""
+        return self.by_number.get(len(self.frames), set())
 
 
 def sent_by_number(lines):
     """By the number of a frame the (port, bytes) that left by a transcript, the host's pseudo port counted as the host."""
     sent = collections.defaultdict(set)
     for line in lines:
-        words = line.split(" ")
-        if words[0] == "tx" and words[2] != str(QUERIER):
-            sent[int(words[1])].add((0 if int(words[2]) == HOST else int(words[2]), bytes.fromhex(words[3])))
+        if line.startswith("tx "):
+            _, frame, port, digits = line.split(" ")
+            if port != str(QUERIER):
+                sent[int(frame)].add((0 if int(port) == HOST else int(port), bytes.fromhex(digits)))
     return sent
 
 
@@ -90,30 +93,27 @@ def of_linux(frame):
 
 
 class Verdict:
-    """The judgement of one case."""
+    """The judgement of one window of a case."""
 
-    def __init__(self, case):
-        self.case, self.head = case, case.model.head()
+    def __init__(self, case, window):
+        self.case, self.window, self.head = case, window, window.model.head()
+        self.names = {**window.model.names, 0: "the host", HOST: "the host"}
         self.counts, self.differences, self.rows, self.looks = collections.Counter(), [], [], 0
-        self.refused, self.fault = [], None
+        self.refused, self.fault, self.outcome, self.tried = [], None, None, 0
+        self.untried = 0  # frames near a change that weren't judged, since there are too many
         self.beside = set()  # frames that went by the tables of the other side of a change
         self.corrected = set()  # rows that a correction made
 
     def judge(self):
         try:
             self.compare_tables()
-            self.outcome = Outcome(self.head, self.case.model.items).replay()
+            self.outcome = Outcome(self.head, self.window.model.items).replay()
             self.refused = self.outcome.refused
-            for frame in self.case.frames:
+            for frame in self.window.frames:
                 self.compare_frame(frame)
         except (Broken, subprocess.SubprocessError) as fault:
             self.fault = str(fault)
         return self
-
-    def unexplained(self):
-        """How much nothing explains."""
-        return (sum(1 for each in self.differences if each.name is None) + sum(1 for each in self.rows if each.name is None) +
-                len(self.case.strangers) + len(self.refused) + (self.fault is not None))
 
     # ---- frames ----
 
@@ -132,10 +132,14 @@ class Verdict:
                 self.differ(frame, set(), linux, frame.expected.name)
                 return
         else:
-            ours = self.seen(frame, self.outcome.sent[frame])
-            if ours == linux:
+            ours = self.seen(frame, self.outcome.sent.get(frame, set()))
+            if ours == linux or self.case.bounds.chip and self.beside_chip(frame, ours) == linux:
                 self.counts["same"] += 1
                 return
+        self.compare_near(frame, ours, linux)
+
+    def compare_near(self, frame, ours, linux):
+        """Compares a frame with what the tables of the other side of a change say."""
         sides = list(self.sides(frame))
         if linux in sides:
             self.counts["same"] += 1
@@ -143,16 +147,27 @@ class Verdict:
             self.beside.add(frame)
             return
         named_sides = (self.name_of(frame, side, linux) for side in ([] if ours is None else [ours]) + sides)
-        self.differ(frame, ours or set(), linux, next(filter(None, named_sides), None))
+        name = next(filter(None, named_sides), None)
+        if name is None and None in sides:
+            self.counts["frames"] -= 1
+            self.untried += 1
+            return
+        self.differ(frame, ours or set(), linux, name)
+
+    def beside_chip(self, frame, sent):
+        """What software sends of a frame that the chip of its port has forwarded: nothing to that chip's ports."""
+        switches = frame.view.switches
+        chip = switches.get(frame.number)
+        return {each for each in sent if chip is None or switches.get(each[0]) != chip}
 
     def name_of(self, frame, ours, linux):
-        if not self.same_bytes(frame, ours, linux):
+        if ours is None or not self.same_bytes(frame, ours, linux):
             return None
         return named.name_of(self.case, frame, {each for each, _ in ours}, {each for each, _ in linux})
 
     def differ(self, frame, ours, linux, name):
-        self.counts[name or "unexplained"] += 1
-        self.differences.append(Difference(frame, ours, linux, name))
+        is_checked = name is not None and named.is_checked(frame, name, {each for each, _ in linux})
+        self.differences.append(Difference(frame, ours, linux, name, is_checked, self.names))
 
     def keeps_bytes(self, frame, linux):
         """Whether nothing but the tag changed."""
@@ -166,20 +181,23 @@ class Verdict:
         return all(here[number] == there[number] for number in here.keys() & there.keys())
 
     def sides(self, frame):
-        """What the tables of the other sides of changes near the frame give."""
-        items = self.case.model.items
+        """What the tables of the other sides of changes near the frame give; None where that would take too long."""
+        items = self.window.model.items
         before, after = self.near(items, frame)
         nearby = before + after
         if not 0 < len(nearby) <= MOST_PLACES:
             return
         given = packets.bare(frame.data) if frame.kept_tag else frame.data
-        entry = [Item("publish"), Item("rx %d %s" % (frame.number, given.hex()), frame=frame), Item("serve")]
-        kept = [items[at] for at in range(self.place(frame)) if at not in before]
+        entry = [PUBLISH, Item("rx %d %s" % (frame.number, given.hex()), frame=frame), SERVE]
+        kept = [items[at] for at in range(self.place(frame)) if at not in set(before)]
         for applied in range(len(nearby) + 1):
             if applied == len(before) and frame.expected is None:
                 continue  # where it entered
-            outcome = Outcome(self.head, kept + [items[at] for at in nearby[:applied]] + entry).replay()
-            yield self.seen(frame, outcome.by_number.get(outcome.last, set()))
+            self.tried += len(kept)
+            if self.tried > MOST_TRIED:
+                yield None
+                return
+            yield self.seen(frame, Outcome(self.head, kept + [items[at] for at in nearby[:applied]] + entry).replay().last_sent())
 
     def place(self, frame):
         """The place in the scenario at which the frame enters, or would enter."""
@@ -201,20 +219,19 @@ class Verdict:
         return before, after
 
     def is_near(self, items, at, frame):
-        item = items[at]
+        item, near = items[at], self.case.bounds.near
         if item.end:
-            return item.begin - named.NEAR <= frame.time <= item.end + named.NEAR
+            return item.begin - near <= frame.time <= item.end + near
         if item.frame:
-            return abs(item.frame.time - frame.time) <= named.NEAR
+            return abs(item.frame.time - frame.time) <= near
         return True
 
     # ---- tables ----
 
     def compare_tables(self):
-        items = self.case.model.items
-        for at, item in enumerate(items):
-            if item.cut:
-                self.compare_cut(item.cut, Outcome(self.head, items[:at]).lines)
+        items = self.window.model.items
+        for cut in self.window.cuts:
+            self.compare_cut(cut, Outcome(self.head, items[:cut.place]).lines)
 
     def compare_cut(self, cut, lines):
         for table, linux in (("fdb", cut.fdb), ("mdb", cut.mdb)):
@@ -248,8 +265,8 @@ class Verdict:
         if table == "mdb":
             cut.corrections.append(Item("cmd mdb add %s dev %s vlan %s" % (words[3], words[1], words[5]), may_fail=True))
         elif words[5] == "learned" and words[2] != "host":
-            vlans = self.case.model.vlans.get(words[2], {})
+            vlans = self.window.model.vlans.get(words[2], {})
             tag = None if vlans.get(int(words[4]), (False,))[0] else int(words[4])
             cut.corrections.append(Item("cmd fdb del %s vlan %s" % (words[0], words[4]), may_fail=True))
             digits = packets.teaching(words[0], tag)
-            cut.corrections += [Item("publish"), Item("rx %d %s" % (self.case.model.number_named(words[2]), digits)), Item("serve")]
+            cut.corrections += [PUBLISH, Item("rx %d %s" % (self.window.model.number_named(words[2]), digits)), SERVE]
