@@ -61,10 +61,11 @@ class Window:
 
 class Case:
     """`judge`: what takes a window once all is known of it."""
+    sees_host = True
 
     def __init__(self, time, bridge, lacks, bounds=Bounds(), judge=None):
         self.bridge, self.born, self.lacks, self.bounds, self.judge = bridge, time, lacks, bounds, judge
-        self.is_over, self.in_use, self.sees_host = False, bool(lacks), True
+        self.is_over, self.in_use = False, bool(lacks)
         self.window, self.closing = None, collections.deque()
         self.recent, self.entered = collections.defaultdict(collections.deque), collections.deque()
         self.joined = {}  # source and destination of frames that the kernel has joined -> when the last one passed
@@ -121,7 +122,7 @@ class Case:
             self.pending.append((moment, "querier", number, 0, version))
         self.teach_pending(oldest)
         if self.own_query_due is not None and self.own_querier_since <= time:
-            self.own_query_due = time
+            self.own_query_due = oldest - 1
 
     def put_off(self, addresses, members, time):
         """Notes entries, and members by reports, that are to be put in."""

@@ -32,10 +32,7 @@ class Broken(Exception):
 
 class FarCase(Case):
     """A switch that is seen from outside: the host's copies aren't, and nothing tells of its tables."""
-
-    def __init__(self, time, bridge, bounds, judge):
-        super().__init__(time, bridge, set(), bounds, judge)
-        self.sees_host = False
+    sees_host = False
 
     def cut(self, time):
         pass
@@ -58,7 +55,7 @@ def read(ports, commands, skew, open_case):
         raise Broken("nothing judged: no frames are in the captures")
     found = sorted(directed(sorted(found, key=lambda each: each[0]), round(skew * 10**9)), key=lambda each: each.time)
     changes = read_commands(commands, names) if commands else []
-    case = open_case(found[0].time)(found[0].time - BEFORE, bridge_of(names), set())
+    case = open_case(found[0].time)(found[0].time - BEFORE, bridge_of(names), set(), FarCase)
     return "far ends", case, changes, found
 
 
