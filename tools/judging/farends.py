@@ -109,7 +109,9 @@ def read_commands(path, names):
                     moment = int(float(words.pop(0)) * 10**9)
                 words = words[1:] if words[:1] == ["cmd"] else words
                 tried.change(words)
-            except (Broken, IndexError, ValueError, OverflowError) as error:
+            except IndexError as error:
+                raise Broken("%s line %d: a word is missing: %s" % (path, number, line.strip())) from error
+            except (Broken, ValueError, OverflowError) as error:
                 raise Broken("%s line %d: not understood: %s (%s)" % (path, number, line.strip(), error)) from error
             found.append((moment, words))
     return found
