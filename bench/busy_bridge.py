@@ -24,6 +24,7 @@ import netlink
 BRIDGE, FIRST = 1, 2  # devices
 STATIONS, FULL = 40, 1500  # at each port, and bytes of payload
 GROUPS = 20
+AGEING = 300 * 10**6  # µs
 SETTLED = 16 * 10**6  # µs until the querier counts, and its members are known
 
 
@@ -43,7 +44,7 @@ class Bridge:
         self.by_vid = {}
         for each in self.stations:
             self.by_vid.setdefault(each.vid, []).append(each)
-        self.known, self.members, self.router, self.down, self.without = {}, {}, None, set(), set()
+        self.known, self.members, self.router, self.down, self.without, self.heard = {}, {}, None, set(), set(), {}
         self.payload = bytes(self.draw.randrange(256) for _ in range(FULL))
 
     def memberships(self):
@@ -68,6 +69,7 @@ class Bridge:
             return
         data = to + source.mac + self.tag(source.vid) + rest
         self.write.frame(now, source.port, False, data)
+        self.heard[source.vid, source.mac] = now
         if self.known.get((source.vid, source.mac)) != source.port:
             self.known[source.vid, source.mac] = source.port
             self.write.netlink(now + 1, self.say.address(source.port, BRIDGE, source.mac, source.vid))
@@ -83,7 +85,7 @@ class Bridge:
         if peer is source:
             return
         port = self.known.get((peer.vid, peer.mac))
-        self.send(now, source, peer.mac, rest, self.all_but(source) if port is None else [port] if port != source.port else [])
+        self.send(now, source, peer.mac, rest, [each for each in self.all_but(source) if each != BRIDGE] if port is None else [port] if port != source.port else [])
 
     def to_group(self, now, source):
         group = "239.1.1.%d" % self.draw.randrange(GROUPS)
@@ -149,6 +151,11 @@ class Bridge:
                 ports.discard(port)
                 self.write.netlink(now, self.say.member(port, BRIDGE, frames.v4_bytes(group), vid, kind=netlink.DELMDB))
 
+    def age(self, now):
+        for vid, mac in [key for key in self.known if now - self.heard[key] > AGEING]:
+            port = self.known.pop((vid, mac))
+            self.write.netlink(now, self.say.address(port, BRIDGE, mac, vid, kind=netlink.DELNEIGH))
+
     def run(self):
         self.start()
         self.query(10**6)
@@ -156,6 +163,7 @@ class Bridge:
         due.update({SETTLED - 10**6 + 125 * 10**6 * each: self.all_report for each in range(1 + self.end // (125 * 10**6))})
         due.update({20 * 10**6 * each + 5 * 10**5: self.flap_vlan for each in range(1, self.end // (20 * 10**6))})
         due.update({60 * 10**6 * each + 25 * 10**5: self.flap_port for each in range(1, self.end // (60 * 10**6))})
+        due.update({5 * 10**6 * each + 7 * 10**5: self.age for each in range(1, self.end // (5 * 10**6))})
         moments, rest = sorted(due), b"\x88\xb5" + self.payload
         for number in range(self.count):
             now = 2 * 10**6 + number * (self.end - 2 * 10**6) // self.count
