@@ -74,8 +74,14 @@ class Reader:
     """A pcapng file, read block by block: `interfaces` grows as they are described, `dropped` as it is said how many packets were lost."""
 
     def __init__(self, file):
-        self.file, self.order, self.first, self.at = file, "<", 0, 0
+        self.file, self.first, self.at = file, 0, 0
+        self.set_order("<")
         self.interfaces, self.resolutions, self.dropped = [], [], []
+
+    def set_order(self, order):
+        self.order, self.begin = order, struct.Struct(order + "2I")
+        self.heads = {PACKET: struct.Struct(order + "5I"), OLD_PACKET: struct.Struct(order + "2H4I")}
+        self.flags = struct.pack(order + "2H", FLAGS, 4)  # where these are the first option
 
     def blocks(self):
         """The type and the body of each block."""
@@ -85,10 +91,10 @@ class Reader:
                 return
             if head[:4] == b"\x0a\x0d\x0d\x0a":
                 head += self.file.read(4)
-                self.order = "<" if head[8:] == b"\x4d\x3c\x2b\x1a" else ">"
+                self.set_order("<" if head[8:] == b"\x4d\x3c\x2b\x1a" else ">")
             if len(head) < 8:
                 raise Broken(f"the block at {self.at} is cut off")
-            kind, length = struct.unpack_from(self.order + "2I", head)
+            kind, length = self.begin.unpack_from(head)
             if not 12 <= length <= LONGEST_BLOCK or length % 4:
                 raise Broken(f"the block at {self.at} has a wrong length")
             body = head[8:] + self.file.read(length - len(head))
@@ -122,14 +128,21 @@ class Reader:
             self.dropped += [struct.unpack(self.order + "Q", value)[0]] if value else []
 
     def packet(self, kind, body):
-        fields = struct.unpack_from(self.order + ("5I" if kind == PACKET else "2H4I"), body)
+        fields = self.heads[kind].unpack_from(body)
         number, high, low, captured, length = fields if kind == PACKET else (fields[0], *fields[2:])
         if self.first + number >= len(self.interfaces):
             raise Broken(f"a packet of interface {number}, which isn't described")
         if 20 + captured > len(body):
             raise Broken("a packet is longer than its block")
-        time = microseconds(high << 32 | low, self.resolutions[self.first + number])
-        flags = options(body[20 + (captured + 3) // 4 * 4:], self.order).get(FLAGS) if kind == PACKET else None
+        resolution = self.resolutions[self.first + number]
+        time = high << 32 | low if resolution is None else microseconds(high << 32 | low, resolution)
+        at = 20 + (captured + 3) // 4 * 4
+        if kind != PACKET or at >= len(body):
+            flags = None
+        elif body[at:at + 4] == self.flags:
+            flags = body[at + 4:at + 8]
+        else:
+            flags = options(body[at:], self.order).get(FLAGS)
         direction = struct.unpack(self.order + "I", flags)[0] & 3 if flags else 0
         return Packet(self.first + number, time, body[20:20 + captured], length, direction)
 

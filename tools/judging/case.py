@@ -433,16 +433,13 @@ class Case:
 
     def settings_on(self):
         """By setting the numbers of the ports that have it (of the flags: that don't)."""
-        return self.cache("on", self.find_settings)
+        return self.cached.get("on") or self.cache("on", self.find_settings)
 
     def find_settings(self):
         ports = {self.number_of(each.index): each for each in self.bridge.ports.values()}
         on = {setting: {n for n, each in ports.items() if each.has(setting)} for setting in named.SETTINGS}
         on["bcast_flood"] = {n for n, each in ports.items() if not each.flags["bcast_flood"]}
         return on
-
-    def options_now(self):
-        return self.cache("options", lambda: dict(self.bridge.options))
 
     def quiet(self, time):
         """Remembers the kernel's tables where nothing happened for a while."""
@@ -491,7 +488,9 @@ class Case:
         return rows
 
     def number_of(self, device):
-        return 0 if device == self.bridge.index else self.model.number(self.bridge.ports[device])
+        if device == self.bridge.index:
+            return 0
+        return self.model.numbers.get(device) or self.model.number(self.bridge.ports[device])
 
     def frame(self, packet, order):
         """A frame at the bridge's device or a port's. What the bridge's device sends enters the bridge, and what it gets left it."""

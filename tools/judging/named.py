@@ -189,50 +189,58 @@ def router_differences(view):
     yield "left out: a router port from before the record", set(), heard.told
 
 
-class Place:
-    """What the configuration says of the frames of a VLAN that enter at a device: numbers of ports, 0 is the host."""
-    __slots__ = ("port", "vid", "admitted", "on", "options", "others", "host_in_vlan", "reachable", "quiet", "flood", "router_settings",
-                 "routers", "blocked", "forwards", "promiscuous", "snooping", "is_aware", "smallest_mtu", "has_own_times",
-                 "switches")
+class Ports:
+    """What the configuration says of the ports of a bridge, whatever the frame: numbers of ports, 0 is the host."""
 
-    def __init__(self, case, number, device, tag):
+    def __init__(self, case):
         bridge, model = case.bridge, case.model
-        self.port = bridge.ports.get(device)
-        name = model.name(self.port) if self.port else "HOST"
-        vlans = model.vlans.get(name, {})
-        self.vid = tag or next((vid for vid, (pvid, _) in vlans.items() if pvid), 0)
-        self.admitted = self.vid in vlans
-        self.on, self.options = case.settings_on(), case.options_now()
+        self.others = {case.number_of(each.index): each for each in bridge.ports.values()}
+        names = {number: model.name(port) for number, port in self.others.items()}
+        self.vlans = {number: model.vlans[name] for number, name in names.items() if name in model.up}
+        flags = {number: model.flags[names[number]] for number in self.vlans}
+        self.isolated = {number for number in self.vlans if flags[number]["isolated"]}
+        self.quiet = {number for number in self.vlans if not flags[number]["mcast_flood"]}
+        self.hairpin = {number for number, port in self.others.items() if port.has("hairpin")}
+        self.on, self.options = case.settings_on(), dict(bridge.options)
         self.promiscuous, self.snooping, self.is_aware = bridge.promiscuous, bridge.is_snooping(), bridge.is_aware()
-        self.host_in_vlan = self.vid in model.vlans["host"]
-        self.others = case.cache("others", lambda: {case.number_of(each.index): each for each in bridge.ports.values()})
-        self.reachable = self.find_reachable(case, number)
-        # the ports that could be reached with `mcast_flood off`
-        self.quiet = {each for each in self.reachable if each and not model.flags[model.name(self.others[each])]["mcast_flood"]}
-        # where a frame to a group leaves that is flooded; of what the host sends that leaves no port out
-        self.flood = self.reachable - self.quiet if self.port else self.reachable
         self.router_settings = self.on["mcast_router"] | ({0} if bridge.options.get("mcast_router", 1) != 1 else set())
         self.routers = {case.number_of(each) for each in bridge.routers if each in bridge.ports}
-        self.blocked = {n for n, each in self.others.items() if each.vlan_states.get(self.vid, kernel.FORWARDING) != kernel.FORWARDING}
-        self.forwards = bool(self.port and self.port.others.get("group_fwd_mask", 0) | bridge.options.get("group_fwd_mask", 0))
+        self.states = {number: port.vlan_states for number, port in self.others.items() if port.vlan_states}
+        self.group_fwd_mask = bridge.options.get("group_fwd_mask", 0)
         self.smallest_mtu = min((each.mtu for each in self.others.values() if each.mtu), default=packets.LONGEST)
-        self.has_own_times = has_own_times(bridge)
         self.switches = {number: each.switch for number, each in self.others.items() if each.switch}
+        self.has_own_times = has_own_times(bridge)
 
-    def find_reachable(self, case, number):
-        """The ports by which a frame of this VLAN may leave at all."""
-        if not self.admitted:
-            return set()
-        ports = {0} if self.port and self.host_in_vlan else set()
-        for other, port in self.others.items():
-            flags = case.model.flags.get(case.model.name(port))
-            isolated = flags and flags["isolated"] and self.port and self.port.flags["isolated"]
-            if flags and (other != number or port.has("hairpin")) and self.is_in_vlan(case, port) and not isolated:
-                ports.add(other)
-        return ports
 
-    def is_in_vlan(self, case, port):
-        return self.vid in case.model.vlans.get(case.model.name(port), {})
+class Place:
+    """What the configuration says of the frames of a VLAN that enter at a port; `ports` has what it says whatever the VLAN."""
+    __slots__ = ("ports", "port", "vid", "admitted", "host_in_vlan", "in_vlan", "reachable", "quiet", "flood", "blocked", "forwards")
+
+    def __init__(self, case, number, device, tag):
+        self.ports = ports = case.cache("ports", lambda: Ports(case))
+        model = case.model
+        self.port = ports.others.get(number)
+        vlans = ports.vlans.get(number, {}) if self.port else model.vlans.get("HOST", {})
+        self.vid = vid = tag or next((vid for vid, (pvid, _) in vlans.items() if pvid), 0)
+        self.admitted, self.host_in_vlan = vid in vlans, vid in model.vlans["host"]
+        self.in_vlan = {other for other, vlans in ports.vlans.items() if vid in vlans}
+        # the ports by which a frame of this VLAN may leave at all
+        self.reachable = self.find_reachable(number) if self.admitted else set()
+        # those among them with `mcast_flood off`
+        self.quiet = self.reachable & ports.quiet
+        # where a frame to a group leaves that is flooded; of what the host sends that leaves no port out
+        self.flood = self.reachable - self.quiet if self.port else self.reachable
+        self.blocked = {other for other, states in ports.states.items() if states.get(vid, kernel.FORWARDING) != kernel.FORWARDING}
+        self.forwards = bool(self.port and self.port.others.get("group_fwd_mask", 0) | ports.group_fwd_mask)
+
+    def find_reachable(self, number):
+        found = self.in_vlan - ({number} - self.ports.hairpin)
+        if number in self.ports.isolated:
+            found -= self.ports.isolated
+        return found | {0} if self.port and self.host_in_vlan else found
+
+    def __getattr__(self, name):
+        return getattr(self.ports, name)
 
 
 class View:
@@ -244,7 +252,7 @@ class View:
     def __init__(self, case, number, device, data, time, length):
         bridge, tag = case.bridge, packets.vid_of(data)
         self.number, self.device, self.time, self.data, self.length = number, device, time, data, length
-        self.place = case.cache((number, tag), lambda: Place(case, number, device, tag))
+        self.place = case.cached.get((number, tag)) or case.cache((number, tag), lambda: Place(case, number, device, tag))
         vid = self.place.vid if self.place.is_aware else 0
         self.key, self.source = (vid, data[:6].hex(":")), (vid, data[6:12].hex(":"))
         self.source_entry, self.entry = bridge.fdb.get(self.source), bridge.fdb.get(self.key)
@@ -285,7 +293,8 @@ class View:
         port = case.bridge.ports.get(device)
         if port is None or not port.is_up():
             return None, "down"
-        return case.number_of(device), "here" if self.place.is_in_vlan(case, port) else "outside"
+        number = case.number_of(device)
+        return number, "here" if number in self.place.in_vlan else "outside"
 
     def find_members(self, case, data):
         """The group of the packet, with its members in the kernel: number -> key."""
@@ -295,8 +304,7 @@ class View:
         self.members = {case.number_of(key[2]): key for key in keys}
         self.has_sources = (self.key[0], self.group) in case.bridge.sources
         self.due = {number for number, key in self.members.items() if is_due(case, key, self.time)}
-        others = self.place.others
-        self.unreachable = {number for number in self.members if number and not self.place.is_in_vlan(case, others[number])}
+        self.unreachable = self.members.keys() - self.place.in_vlan - {0}
         self.wanted = self.find_wanted(case, found[0]) if found else set()
 
     def find_wanted(self, case, source):

@@ -105,13 +105,18 @@ def note_unread(unread, what, kind, names, value):
     unread["%s %d (%s)" % (what, kind, name)] = value if value != usual else None
 
 
+def vlan_entries(data, order):
+    if len(data) % 8 == 0:  # each of 8 bytes, where there is nothing else
+        entries = list(struct.iter_unpack(order + "4H", data))
+        if all(length == 8 and kind == 2 for length, kind, _, _ in entries):
+            return [each[2:] for each in entries]
+    return [struct.unpack(order + "HH", value) for kind, value in attributes(data, order) if kind == 2]
+
+
 def vlan_table(data, order):
     """The memberships by VLAN, (whether the PVID, whether untagged)."""
     found, begin = {}, None
-    for kind, value in attributes(data, order):
-        if kind != 2:
-            continue
-        flags, vid = struct.unpack(order + "HH", value)
+    for flags, vid in vlan_entries(data, order):
         if flags & 8:
             begin = vid
             continue
