@@ -23,7 +23,7 @@ FORGETS = 300 * 10**9    # ns: what was heard before is of no use any more, and 
 # of either side say, ns by which the kernel's timers are late, ns without frames and commands behind which the tables are compared, ns within
 # which a frame leaves, whether ports of a switch are judged, and frames of a window
 Bounds = collections.namedtuple("Bounds", "since until near late quiet flight chip frames",
-                                defaults=(None, None, 10**7, 20 * 10**9, 9 * 10**8, 10**9, False, 100000))
+                                defaults=(None, None, 10**7, 20 * 10**9, 9 * 10**8, 10**9, False, 50000))
 
 
 class Frame:
@@ -471,7 +471,7 @@ class Case:
         """The kernel's addresses, as `show fdb` has them, each with its key."""
         rows = {}
         for (vid, mac), (device, kind) in self.bridge.fdb.items():
-            if self.bridge.counts(vid) and not (kind == "local" and (vid or 1) not in self.model.vlans["host"]):
+            if self.bridge.counts(vid) and (vid or 1) in self.model.used and not (kind == "local" and (vid or 1) not in self.model.vlans["host"]):
                 port = self.bridge.ports.get(device)
                 name = "host" if kind == "local" or device == self.bridge.index else self.model.name(port) if port else "?%d" % device
                 if kind == "learned" or self.model.place(self.bridge, self.bridge.index if name == "host" else device, vid or 1):
@@ -524,6 +524,8 @@ class Case:
         given = data
         if not self.bridge.is_aware():
             frame.kept_tag, given = packets.tag_of(data), packets.bare(data)
+        else:
+            self.use(time, device, packets.vid_of(data))
         frame.view = named.View(self, number, device, given, time, packet.length)
         frame.settings = self.settings_of(device)
         frame.expected = named.expected(self, frame, given)
@@ -538,6 +540,19 @@ class Case:
         self.window.taught.discard(frame.view.source)
         if frame.view.is_group or frame.expected:
             named.react(self, frame, given)
+
+    def use(self, time, device, vid):
+        """Mirrors a VLAN in which a frame enters."""
+        port = self.bridge.ports.get(device)
+        if not vid or vid in self.model.used or vid not in (port.vlans if port else self.bridge.vlans_of_host()):
+            return
+        self.model.moments = time, time
+        self.model.use(self.bridge, {vid})
+        self.model.forgotten.clear()
+        self.cached.clear()
+        for each in (self.bridge.index, *self.bridge.ports):
+            self.put_off(self.bridge.addresses.at(each, vid), self.bridge.groups.at(each, vid), time)
+        self.teach_pending(time)
 
     def unfit(self, packet, number):
         """Why a frame isn't judged, or None."""
@@ -557,6 +572,7 @@ class Case:
 
     def teach_unfit(self, time, number, device, data):
         """The kernel learns from a frame that isn't judged, too."""
+        self.use(time, device, packets.vid_of(data) if self.bridge.is_aware() else 0)
         view = named.View(self, number, device, data if self.bridge.is_aware() else packets.bare(data), time, len(data))
         if view.port and view.port.is_up() and view.admitted and view.port.flags["learning"] and not data[6] & 1:
             if (view.source_entry or (0, ""))[1] != "local":

@@ -158,6 +158,11 @@ class Bridge:
     def vlans_of_host(self):
         return self.vlans_of_host_as_told() if self.is_aware() else {1: (True, True)}
 
+    def pvids(self):
+        """The VLANs in which frames without a tag are."""
+        told = {port.pvid for port in self.ports.values()} | {self.host_pvid, *(self.vlans_of_host() if self.host_vlans is None else ())}
+        return told - {0}
+
     def vlans_of(self, port):
         return port.vlans if self.is_aware() else {1: (True, True)}
 

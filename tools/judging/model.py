@@ -17,11 +17,13 @@ SILENT = dict(FLAGS, learning=0, flood=0, mcast_flood=0, bcast_flood=0)
 
 class Item:
     """A line of the scenario: `begin` and `end` are the moments between which the kernel did what the command says, `frame` is the
-    frame of the record that enters, `may_fail` says that a refusal is expected, `cut` is where tables are compared."""
-    __slots__ = ("text", "begin", "end", "frame", "may_fail", "cut")
+    frame of the record that enters, `may_fail` says that a refusal is expected, `cut` is where tables are compared, and `is_old` says of
+    a command that the kernel had done it long before."""
+    __slots__ = ("text", "begin", "end", "frame", "may_fail", "cut", "is_old")
 
-    def __init__(self, text="", begin=0, end=0, frame=None, may_fail=False, cut=None):
+    def __init__(self, text="", begin=0, end=0, frame=None, may_fail=False, cut=None, is_old=False):
         self.text, self.begin, self.end, self.frame, self.may_fail, self.cut = text, begin, end, frame, may_fail, cut
+        self.is_old = is_old
 
 
 PUBLISH, SERVE = Item("publish"), Item("serve")
@@ -41,6 +43,7 @@ class Model:
         self.sources = set()  # of frames that entered, whose addresses may have been learned
         self.fdb, self.groups = {}, {}  # what commands made: (VLAN, address) -> (port, kind), and (VLAN, group, port)
         self.ageing, self.snooping, self.aware = 300, True, None
+        self.used, self.is_using = {1}, False  # the VLANs in which a frame entered, or may enter without a tag: no others are mirrored
         self.moments = (0, 0)  # of the change that is being mirrored
         self.forgotten = set()  # (device, VLAN) whose learned entries went with a command that keeps them in the kernel
         self.size = self.weight = 0  # bytes of its lines, and at least as many as the changes that they make
@@ -82,7 +85,7 @@ class Model:
 
     def command(self, words, may_fail=False, weight=1):
         self.at(self.moments[1])
-        self.items.append(Item("cmd " + words, *self.moments, may_fail=may_fail))
+        self.items.append(Item("cmd " + words, *self.moments, may_fail=may_fail, is_old=self.is_using))
         self.size += len(words) + 5
         self.weight += weight
 
@@ -107,6 +110,8 @@ class Model:
             changes = kernel.Changes(True)
         if changes.options:
             self.sync_options(bridge)
+        if changes.ports or changes.whole:
+            self.use(bridge, bridge.pvids())
         if changes.options or bridge.index in changes.ports:
             self.sync_host(bridge)
         for index in bridge.ports if changes.whole else changes.ports:
@@ -114,6 +119,25 @@ class Model:
                 self.sync_port(bridge, bridge.ports[index], changes.ports.get(index))
         self.sync_addresses(bridge, changes)
         self.sync_groups(bridge, changes)
+
+    def use(self, bridge, vids):
+        """Mirrors these VLANs from now on, as they are."""
+        new = vids - self.used
+        self.used |= new
+        if not new or self.aware is not True:
+            return
+        self.is_using = True
+        for port in bridge.ports.values():
+            if self.name(port) in self.up:
+                self.sync_vlans(self.name(port), port.index, port.vlans, new)
+        for name in ("host", "HOST") if "HOST" in self.up else ():
+            self.sync_vlans(name, bridge.index, bridge.vlans_of_host(), new)
+        changes = kernel.Changes()
+        for device in (bridge.index, *bridge.ports):
+            changes.port(device, new)
+        self.sync_addresses(bridge, changes)
+        self.sync_groups(bridge, changes)
+        self.is_using = False
 
     def clear(self):
         """Forgets all, since entries of a bridge that looks at tags and of one that doesn't are others."""
@@ -151,7 +175,7 @@ class Model:
         if name not in self.up:
             self.port_up(name)
             # what was learned before the port forwards
-            self.forgotten |= {(port.index, vid) for vid in bridge.vlans_of(port)}
+            self.forgotten |= {(port.index, vid) for vid in self.used}
             vids = None
         self.sync_vlans(name, port.index, bridge.vlans_of(port), vids)
         self.sync_flags(name, port.flags)
@@ -176,7 +200,7 @@ class Model:
 
     def sync_vlans(self, name, device, want, vids=None):
         have = self.vlans[name]
-        concerned = sorted(want.keys() | have.keys() if vids is None or self.aware is False else vids)
+        concerned = sorted(self.used if vids is None or self.aware is False else self.used & set(vids))
         for vid in concerned:
             if want.get(vid, (False,))[0] and vid not in have:  # the PVID moves by itself
                 self.vlan_add(name, vid, want[vid])

@@ -223,7 +223,7 @@ class Place:
         vlans = ports.vlans.get(number, {}) if self.port else model.vlans.get("HOST", {})
         self.vid = vid = tag or next((vid for vid, (pvid, _) in vlans.items() if pvid), 0)
         self.admitted, self.host_in_vlan = vid in vlans, vid in model.vlans["host"]
-        self.in_vlan = {other for other, vlans in ports.vlans.items() if vid in vlans}
+        self.in_vlan = case.cache(("VLAN", vid), lambda: {other for other, vlans in ports.vlans.items() if vid in vlans})
         # the ports by which a frame of this VLAN may leave at all
         self.reachable = self.find_reachable(number) if self.admitted else set()
         # those among them with `mcast_flood off`

@@ -208,19 +208,19 @@ class Verdict:
         before, after = [], []
         at = self.place(frame) - 1
         while at >= 0 and self.is_near(items, at, frame):
-            if items[at].end:
+            if items[at].end and not items[at].is_old:
                 before.insert(0, at)
             at -= 1
         at = frame.item + 1
         while at < len(items) and self.is_near(items, at, frame):
-            if items[at].end:
+            if items[at].end and not items[at].is_old:
                 after.append(at)
             at += 1
         return before, after
 
     def is_near(self, items, at, frame):
         item, near = items[at], self.case.bounds.near
-        if item.end:
+        if item.end and not item.is_old:
             return item.begin - near <= frame.time <= item.end + near
         if item.frame:
             return abs(item.frame.time - frame.time) <= near
