@@ -111,7 +111,8 @@ def small(out, order="<", frames=None, ports=3, settings=(), lost=0, **more):
             write.netlink(time, message)
     for number, (data, entry, leaves) in enumerate(spoken(ports) if frames is None else frames):
         time += 20000
-        write.frame(time, entry, False, data)
+        if entry is not None:
+            write.frame(time, entry, entry == 1, data)
         if frames is None and number < ports:
             write.netlink(time + 1, say.address(entry, 1, data[6:12], 1))
         for at, each in enumerate(leaves):
@@ -120,8 +121,8 @@ def small(out, order="<", frames=None, ports=3, settings=(), lost=0, **more):
 
 
 def spoken(ports):
-    """(frame, the device where it enters, those where it leaves)"""
-    stations = [bytes([2, 0, 0, 0, 0, 8 + index]) for index in range(2, ports + 2)]
+    """(frame, the device where it enters, or None, those where it leaves)"""
+    stations = [bytes([2, 0, 0, 0, *divmod(8 + index, 256)]) for index in range(2, ports + 2)]
     rest = b"\x88\xb5" + b"\0" * 46
     for index, each in enumerate(stations, 2):
         yield b"\xff" * 6 + each + rest, index, [other for other in range(1, ports + 2) if other != index]

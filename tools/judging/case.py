@@ -593,8 +593,8 @@ class Case:
         key, rest = packets.parted(packet.data, packet.length)
         for frame, its_rest in reversed(self.recent.get(key, ())):
             if (rest == its_rest or None in (rest, its_rest)) and self.may_leave(frame, packet, number):
-                size = len(frame.data) - (4 if packets.tag_of(frame.data) else 0)
-                frame.out.append((number, packets.head(packet.data, size)))
+                kept = packets.bare(frame.data)
+                frame.out.append((number, packets.head(packet.data, min(packets.KEPT, len(kept))) + kept[packets.KEPT:]))
                 frame.last = order
                 return
         self.stranger(packet.time, number, packet.device, packet.data)

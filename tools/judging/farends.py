@@ -52,7 +52,7 @@ def read(ports, commands, skew, open_case):
             raise Broken("%s: not of Ethernet alone" % path)
         found += [(each.time * 1000, index, each) for each in given]
     if not found:
-        raise Broken("nothing judged: no frames are in the captures")
+        raise Broken("no frames are in the captures")
     found = sorted(directed(sorted(found, key=lambda each: each[0]), round(skew * 10**9)), key=lambda each: each.time)
     changes = read_commands(commands, names) if commands else []
     case = open_case(found[0].time)(found[0].time - BEFORE, bridge_of(names), set(), FarCase)

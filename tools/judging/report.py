@@ -3,7 +3,7 @@ import collections
 
 import packets
 
-SHOWN, SHOWN_NAMED = 40, 3
+SHOWN, SHOWN_NAMED, SHOWN_DIGITS = 40, 3, 400
 
 
 def listed(counts):
@@ -118,7 +118,7 @@ class Tally:
         ours = "isn't asked" if frame.expected is not None else port_names(each, each.ours)
         words = "switchbr: %s; Linux: %s" % (ours, port_names(each, each.linux))
         if frame.expected is None and dict(each.ours).keys() == dict(each.linux).keys():
-            ours, linux = [" ".join(data.hex() for _, data in sorted(sent)) for sent in (each.ours, each.linux)]
+            ours, linux = [" ".join(data.hex()[:SHOWN_DIGITS] for _, data in sorted(sent)) for sent in (each.ours, each.linux)]
             words += "; other bytes: %s and %s" % (ours, linux)
         yield "             %s; %s has: %s" % (words, each.names[frame.number], frame.settings)
 
