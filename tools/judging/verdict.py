@@ -1,13 +1,15 @@
 """The replay of a scenario, and what of it differs from the record."""
 import collections
 import os
+import shutil
 import subprocess
 
 import named
 import packets
 from model import HOST, PUBLISH, QUERIER, SERVE, Item
 
-PROGRAM = os.environ.get("SWITCHBR", os.path.join(os.path.dirname(os.path.abspath(__file__)), "../../crates/switchbr/out/switchbr"))
+BUILT = os.path.join(os.path.dirname(os.path.abspath(__file__)), "../../crates/switchbr/out/switchbr")
+PROGRAM = os.environ.get("SWITCHBR") or (BUILT if os.path.exists(BUILT) else shutil.which("switchbr") or BUILT)
 MOST_PLACES = 64
 MOST_SECONDS = 600
 MOST_TRIED = 3 * 10**7  # lines that are replayed for frames near changes, at most
