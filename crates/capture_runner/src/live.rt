@@ -17,6 +17,7 @@ ghost use Rattle.run_status.specs.Statuses.{Caused, EndsIn, call_of, live_ways};
 ghost use Rattle.command_line.specs.Words.{most_workers};
 
 use br_model::NoMemory;
+use br_model::limits::MOST_LIVE_BYTES;
 use br_model::steps::Step;
 use bridge_command::Roster;
 use live_workers::{Taken, take_steps};
@@ -31,9 +32,6 @@ use scenario_runner::commands::status_of;
 use std::alloc::Global;
 use std::sync::Wait;
 use std::thread::Threads;
-
-/// Bytes that are read of an input: 2^22.
-const MOST_LIVE_BYTES: u32 = 4_194_304;
 
 /// Reads a scenario in memory.
 fn read_bytes(alloc: Global, bytes: &[u8]) -> Result<Whole, NoMemory>

@@ -26,9 +26,6 @@ pub type Addresses = Map<Key, AddressRow, AddressCells>;
 /// How many address rows there are.
 pub const ROWS: usize = 32768;
 
-/// How far apart the numbers of one address in two VLANs that follow one another are.
-const VLAN_STEP: u64 = 1 << 48;
-
 /// A row is used where its key isn't 0.
 #[derive(Drop)]
 pub struct AddressCells {
@@ -54,7 +51,7 @@ fn number_of(key: &Key) -> u64
     ensures some { result ≢ 0 }
     ensures below { key.now.1 < 2 ^ 48 }
 {
-    u64::from(key.0.number()) * VLAN_STEP + key.1.number()
+    key.1.in_vlan(key.0)
 }
 
 /// That of the key in a row.
@@ -62,7 +59,7 @@ fn number_in(row: &Row<9>) -> u64
     ensures { result ≡ ordered (key_of row.now) }
 {
     let key = key_in(row);
-    key % 4096 * VLAN_STEP + key / 4096
+    key % 4096 * Mac::VLAN_STEP + key / 4096
 }
 
 impl Cells<Key, AddressRow> for AddressCells {

@@ -9,15 +9,13 @@ ghost use Rattle.command_line.specs.Words.{IsWithin, addresses, addresses_of, as
 
 use crate::asked::Asked;
 use br_model::NoMemory;
+use br_model::limits::MOST_FRAMES;
 use br_model::listing::Listing;
 use bridge_command::{address_four, address_six, number_up_to};
 use clap::error::ErrorKind;
 use clap::{Arg, ArgMatches, Command};
 use port_workers::MOST_WORKERS;
 use std::alloc::{AllocError, Global};
-
-/// The most frames that are generated.
-const MOST_FRAMES: u64 = 100_000;
 
 fn show_command<'a>(alloc: Global) -> Result<Command<'a>, NoMemory>
     ensures app { IfOk result (λ c. app_of c ≡ subcommand (codes "show") table) }
@@ -106,7 +104,7 @@ fn numbers_from(found: &ArgMatches) -> Option<(u64, u32)>
     ensures most { IfSome result (λ p. p.1 ≤ most_frames) }
 {
     let number = number_up_to(word_of(found, "number")?, u64::MAX)?;
-    let count = number_up_to(word_of(found, "count")?, MOST_FRAMES)?;
+    let count = number_up_to(word_of(found, "count")?, u64::from(MOST_FRAMES))?;
     Some((number, count as u32))
 }
 

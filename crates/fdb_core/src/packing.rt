@@ -9,9 +9,6 @@ use crate::entries::Key;
 use br_model::numbers::{Mac, Vid};
 use std::alloc::Global;
 
-/// How far apart the numbers of one address in two VLANs that follow one another are.
-const VLAN_STEP: u64 = 1 << 48;
-
 /// The number of a key.
 pub fn pack(vid: Vid, mac: Mac) -> u64
     ensures value { result ≡ packed (vid, mac) }
@@ -19,7 +16,7 @@ pub fn pack(vid: Vid, mac: Mac) -> u64
     ensures is_key { IsTrue (is_key result) }
     ensures below { mac < 2 ^ 48 }
 {
-    u64::from(vid.number()) * VLAN_STEP + mac.number()
+    mac.in_vlan(vid)
 }
 
 /// The key of a number.
@@ -29,10 +26,10 @@ fn unpack(number: u64) -> Key
     requires high { number / 2 ^ 48 ≤ 4094 }
     ensures { result ≡ unpacked number }
 {
-    let Some(vid) = Vid::new((number / VLAN_STEP) as u16) else {
+    let Some(vid) = Vid::new((number / Mac::VLAN_STEP) as u16) else {
         unreachable!()
     };
-    let Some(mac) = Mac::from_number(number % VLAN_STEP) else {
+    let Some(mac) = Mac::from_number(number % Mac::VLAN_STEP) else {
         unreachable!()
     };
     (vid, mac)

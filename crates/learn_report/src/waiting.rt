@@ -11,9 +11,6 @@ use br_model::limits::MOST_REPORTS;
 use std::alloc::Global;
 use std::marker::Model;
 
-/// How far apart the numbers of one address in two VLANs that follow one another are, before the port is added.
-const VLAN_STEP: u64 = 1 << 48;
-
 /// How many ports a byte numbers.
 const PORTS: u128 = 256;
 
@@ -40,8 +37,7 @@ pub(crate) fn number_of(report: &Report) -> u128
     ensures value { result ≡ numbered report.now }
     ensures ranged { IsRanged report.now }
 {
-    let key = u64::from(report.0.number()) * VLAN_STEP + report.1.number();
-    u128::from(key) * PORTS + u128::from(report.2.number())
+    u128::from(report.1.in_vlan(report.0)) * PORTS + u128::from(report.2.number())
 }
 
 impl Waiting {

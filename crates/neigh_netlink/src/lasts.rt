@@ -18,9 +18,6 @@ pub struct Last {
     pub kind: Kind,
 }
 
-/// How far apart the numbers of one address in two VLANs that follow one another are.
-const VLAN_STEP: u64 = 1 << 48;
-
 /// What no key has.
 const BLANK: Last = Last {
     ticket: 0,
@@ -35,7 +32,7 @@ fn pack(key: &Key) -> u64
     ensures below { key.now.1 < 2 ^ 48 }
 {
     let (vid, mac) = *key;
-    u64::from(vid.number()) * VLAN_STEP + mac.number()
+    mac.in_vlan(vid)
 }
 
 /// No entry, and room for so many.

@@ -797,7 +797,7 @@ impl Plane {
         self.sides.first_report(dom)
     }
 
-    /// And all chips together.
+    /// How many updates are queued, for all chips together.
     pub fn pending_of_all(&self) -> u32
         ensures { result ≡ pending self.now.world }
     {

@@ -334,7 +334,7 @@ impl World {
         next_update(&self.plane, dom)
     }
 
-    /// How many they are.
+    /// How many changes were accepted.
     pub fn changes(&self) -> u32
         ensures { result ≡ length self.now.history }
     {

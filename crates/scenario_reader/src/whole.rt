@@ -9,6 +9,7 @@ ghost use Rattle.scenario_reader.specs.Whole.{SaysWhole};
 
 use crate::NoMemory;
 use crate::reader::{Captured, Last, Next, Reader};
+use br_model::limits::LONGEST_LINE;
 use br_model::scenario::LineWhy;
 use br_model::steps::Step;
 use bridge_command::Roster;
@@ -77,9 +78,6 @@ impl Whole {
         self.steps
     }
 }
-
-/// The bytes of the longest line, without its line feed.
-const LONGEST_LINE: usize = 20_000;
 
 /// The first line of some bytes, without its line feed, and what is behind it.
 #[derive(Clone, Copy, Drop)]

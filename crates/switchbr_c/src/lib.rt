@@ -19,7 +19,7 @@ mod loose;
 #[cfg(test)]
 mod tests;
 
-use br_model::limits::MOST_BYTES;
+use br_model::limits::{MOST_BYTES, MOST_FRAMES};
 use handle::Handle;
 use scenario_generator::generate;
 use std::alloc::Global;
@@ -42,9 +42,6 @@ const TOO_LONG: u8 = 7;
 const NO_ROOM: u8 = 16;
 
 const CLOSED: u8 = 17;
-
-/// The most frames that are generated.
-const MOST_FRAMES: u32 = 100_000;
 
 /// The number of this interface.
 #[unsafe(no_mangle)]

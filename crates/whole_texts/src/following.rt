@@ -6,8 +6,9 @@ ghost use Rattle.neigh_netlink.specs.MessageLines.{ending_of};
 ghost use Rattle.whole_texts.specs.Messages.{EndsSo, TellsTable, lines_end_well};
 
 use crate::NoMemory;
-use crate::fronts::{LONGEST_LINE, first_line};
+use crate::fronts::first_line;
 use crate::replaying::Told;
+use br_model::limits::LONGEST_LINE;
 use neigh_netlink::{FollowEnd, Follower};
 use std::alloc::Global;
 

@@ -3,9 +3,6 @@ ghost use Rattle.whole_texts.specs.Fronts.{CutsFront};
 
 use memchr::memchr;
 
-/// The bytes of the longest line, without its line feed.
-pub(crate) const LONGEST_LINE: usize = 20_000;
-
 /// A line without its line feed, and what is behind it.
 #[derive(Clone, Copy, Drop)]
 pub(crate) struct Front<'a> {

@@ -11,8 +11,9 @@ ghost use Rattle.br_model.specs.Theorems.WholeLines.{is_line};
 ghost use Rattle.whole_texts.specs.Telling.{After, AfterSection, AtSection, Does, DoesAll, Goes, IsAfter, IsBehind, IsLeft, IsOver, IsReady, IsSteady, Stands, closing, end_line_of, last_line, world_of};
 
 use crate::NoMemory;
-use crate::fronts::{Front, LONGEST_LINE, first_line};
+use crate::fronts::{Front, first_line};
 use crate::heap_world::HeapWorld;
+use br_model::limits::LONGEST_LINE;
 use br_model::scenario::LineWhy;
 use br_model::steps::Step;
 use br_model::transcript::Line;

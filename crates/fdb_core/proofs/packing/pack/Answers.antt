@@ -1,4 +1,4 @@
-use Rattle.std.proofs.Common.{◌≡◌, IsTrue, sym, subst}
+use Rattle.std.proofs.Common.{IsTrue, sym, subst}
 use Rattle.open_addressing.specs.Pairs.{packed}
 use Rattle.fdb_core.specs.Packing.{is_key}
 use Rattle.fdb_core.proofs.ByAddress.{key-packed}
@@ -6,11 +6,8 @@ use Rattle.fdb_core.proofs.packing.pack.Goals as goal
 
 pub returns-clause-value : goal.returns-clause-value
 unfolding packed
-returns-clause-value c =
-    let v : c.from.result ≡ c.args.vid = cc in
-    let m : c.number-2.result ≡ c.args.mac = cc in
-    cc
+returns-clause-value c = c.in_vlan.ensures.value
 
 pub returns-clause-is_key : goal.returns-clause-is_key
 returns-clause-is_key c =
-    subst (λ n. IsTrue (is_key n)) (sym (returns-clause-value c)) (key-packed (c.args.vid, c.args.mac) c.number-2.ensures.below c.number.ensures.low c.number.ensures.high)
+    subst (λ n. IsTrue (is_key n)) (sym (returns-clause-value c)) (key-packed (c.args.vid, c.args.mac) c.in_vlan.ensures.below c.in_vlan.ensures.low c.in_vlan.ensures.high)
