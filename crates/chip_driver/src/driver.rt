@@ -16,7 +16,7 @@ use br_model::change::{Change, DISABLED, Flags, Kind, Update};
 use br_model::domains::Domains;
 use br_model::group::Group;
 use br_model::numbers::{Dom, Mac, Port, Vid};
-use chip_tables::{AddressRow, NoMemory, Tables};
+use chip_tables::{AddressRow, NoMemory, Tables, trap_rows};
 use mdb_snoop::Groups;
 use std::alloc::Global;
 use std::marker::Model;
@@ -57,7 +57,7 @@ impl Driver {
         // law: the host isn't on the chip
         making::host_is_elsewhere(d, dom);
         making::mark_own(&mut tables, &shadow.own);
-        switches::switch_traps(&mut tables, switches::FIRST_RESERVED, true);
+        switches::switch_traps(&mut tables, trap_rows::FIRST_RESERVED, true);
         tables.set_control(switches::first_control());
         let mut kept = Kept {
             tables,
@@ -217,7 +217,7 @@ impl Driver {
         let mut control = self.kept.tables.control();
         control.snooping = on;
         self.kept.tables.set_control(control);
-        switches::switch_traps(&mut self.kept.tables, switches::FIRST_SNOOPING, on);
+        switches::switch_traps(&mut self.kept.tables, trap_rows::IGMP, on);
     }
 
     fn set_stp(&mut self, on: bool)
@@ -227,7 +227,7 @@ impl Driver {
         let mut control = self.kept.tables.control();
         control.tree = on;
         self.kept.tables.set_control(control);
-        self.kept.tables.set_trap(switches::TREE_TRAP, on);
+        self.kept.tables.set_trap(trap_rows::TREE, on);
     }
 }
 

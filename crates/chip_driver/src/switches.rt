@@ -2,26 +2,14 @@
 ghost use Rattle.std.specs.Prelude.{◌≡◌, ◌≤◌, true, false, if◌then◌else◌};
 ghost use Rattle.chip_driver.specs.Making.{SwitchesTraps};
 
-use chip_tables::{Control, Tables};
-
-/// The trap of the bridge group address.
-pub const TREE_TRAP: usize = 0;
-
-/// The first of the link-local addresses that are always trapped.
-pub const FIRST_RESERVED: usize = 2;
-
-/// The first trap of snooping, of which all that follow are too.
-pub const FIRST_SNOOPING: usize = 16;
-
-/// How many traps there are.
-pub const TRAPS: usize = 21;
+use chip_tables::{Control, Tables, trap_rows};
 
 /// Switches the traps from one on.
 pub fn switch_traps(tables: &mut Tables, low: usize, on: bool)
     requires { low ≤ 21 }
     ensures { SwitchesTraps low 21 on tables.old tables.new }
 {
-    for i in low..TRAPS {
+    for i in low..trap_rows::COUNT {
         tables.set_trap(i, on);
     }
 }

@@ -11,22 +11,8 @@ ghost use Rattle.chip_tables.specs.Stands.{Stands};
 
 use br_model::frame::{Head, McastMsg};
 use br_model::numbers::{Mac, Port};
+use chip_tables::trap_rows::{IGMP, MLD_DONE, MLD_QUERY, MLD_RECORDS, MLD_REPORT, TREE};
 use chip_tables::{PortRow, Tables};
-
-/// The trap row of 01-80-C2-00-00-00.
-const TREE: usize = 0;
-
-/// The trap row of IGMP.
-const IGMP: usize = 16;
-
-// The trap rows of ICMPv6 types 130, 131, 132 and 143.
-const MLD_QUERY: usize = 17;
-
-const MLD_REPORT: usize = 18;
-
-const MLD_DONE: usize = 19;
-
-const MLD_RECORDS: usize = 20;
 
 /// Whether the destination is 01-80-C2-00-00-00 and trapped.
 pub fn is_for_bridges(tables: &Tables, head: &Head) -> bool

@@ -5,6 +5,7 @@ mod addresses;
 mod groups;
 pub mod rows;
 pub mod tables;
+pub mod trap_rows;
 
 pub use br_model::NoMemory;
 pub use rows::{AddressRow, Control, FanRow, Flood, PortRow, VlanRow};

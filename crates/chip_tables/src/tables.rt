@@ -266,8 +266,7 @@ impl Tables {
         is_on(self.traps.at(i))
     }
 
-    /// Row 0 is that of 01-80-C2-00-00-00, rows 2 to 15 those of 01-80-C2-00-00-02 to 0F, row 16 that of IGMP, and 17 to 20
-    /// those of ICMPv6 types 130, 131, 132 and 143. Row 1 is no frame's.
+    /// Switches a trap row on or off. `trap_rows` names them.
     pub fn set_trap(&mut self, i: usize, on: bool)
         requires { i < 21 }
         ensures row { WritesTrap self.old self.new i on }
