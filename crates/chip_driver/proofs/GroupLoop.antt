@@ -2,6 +2,7 @@
 use Rattle.std.proofs.Common.{◌≡◌, ℕ, ◌+◌, ◌≤◌, Bool, true, false, not, ◌&&◌, ◌||◌, cond, IsTrue, ◌↔◌, Option, None, Some, List, [], length, take, refl, sym, ap, ap₂, subst, ◌∙◌}
 use Rattle.std.specs.Prelude.{is_some, slice_get}
 use Rattle.std.specs.Ordering.{eq_by_cmp}
+use Rattle.lemmas.proofs.Tests.{and-false, or-false, or-true}
 use Rattle.port_sets.specs.Numbers.{has_number}
 use Rattle.br_model.specs.declared.group.Group.{Group}
 use Rattle.br_model.specs.Table.GroupPairs.{GroupPair, group_pair_cmp, group_pairs, max_pairs}
@@ -70,16 +71,8 @@ module _ (test : GroupPair → Bool) (s : Shadow) (ms : List Membership) (i : �
       by k true e a at =
           ap Some (row_at k (pair_equal k j e))
           ∙ sym (ap₂ (λ x y. cond ((a || x) && y) (Some (group_fan s old ms k)) (get group_pair_cmp old.groups k)) e (ap test (pair_equal k j e) ∙ passes)
-          ∙ ap (λ b. cond (b && true) (Some (group_fan s old ms k)) (get group_pair_cmp old.groups k)) (or_true a))
-        where
-          or_true : (b : Bool) → (b || true) ≡ true
-          or_true true = refl
-          or_true false = refl
-      by k false e a at = at ∙ ap (λ b. cond (b && test k) (Some (group_fan s old ms k)) (get group_pair_cmp old.groups k)) (sym (ap (λ x. a || x) e ∙ or_none a))
-        where
-          or_none : (b : Bool) → (b || false) ≡ b
-          or_none true = refl
-          or_none false = refl
+          ∙ ap (λ b. cond (b && true) (Some (group_fan s old ms k)) (get group_pair_cmp old.groups k)) (or-true a))
+      by k false e a at = at ∙ ap (λ b. cond (b && test k) (Some (group_fan s old ms k)) (get group_pair_cmp old.groups k)) (sym (ap (λ x. a || x) e ∙ or-false a))
 
   pub next_kept : test j ≡ false → SoFar test s ms (i + 1) old now
   next_kept fails = record {
@@ -96,17 +89,9 @@ module _ (test : GroupPair → Bool) (s : Shadow) (ms : List Membership) (i : �
           (get group_pair_cmp old.groups k)
       by k true e a =
           (let no : test k ≡ false = ap test (pair_equal k j e) ∙ fails in
-          ap (λ x. cond x (Some (group_fan s old ms k)) (get group_pair_cmp old.groups k)) (ap (λ x. a && x) no ∙ and_false a
-          ∙ sym (ap (λ x. (a || eq_by_cmp group_pair_cmp k j) && x) no ∙ and_false (a || eq_by_cmp group_pair_cmp k j))))
-        where
-          and_false : (b : Bool) → (b && false) ≡ false
-          and_false true = refl
-          and_false false = refl
-      by k false e a = ap (λ b. cond (b && test k) (Some (group_fan s old ms k)) (get group_pair_cmp old.groups k)) (sym (ap (λ x. a || x) e ∙ or_none a))
-        where
-          or_none : (b : Bool) → (b || false) ≡ b
-          or_none true = refl
-          or_none false = refl
+          ap (λ x. cond x (Some (group_fan s old ms k)) (get group_pair_cmp old.groups k)) (ap (λ x. a && x) no ∙ and-false a
+          ∙ sym (ap (λ x. (a || eq_by_cmp group_pair_cmp k j) && x) no ∙ and-false (a || eq_by_cmp group_pair_cmp k j))))
+      by k false e a = ap (λ b. cond (b && test k) (Some (group_fan s old ms k)) (get group_pair_cmp old.groups k)) (sym (ap (λ x. a || x) e ∙ or-false a))
 
 pub next_past : (test : GroupPair → Bool) (s : Shadow) (ms : List Membership) (i : ℕ) (old now : Rows) → SoFar test s ms i old now → slice_get (group_pairs ms) i ≡ None
     → SoFar test s ms (i + 1) old now

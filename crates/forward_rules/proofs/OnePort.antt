@@ -6,7 +6,7 @@ use Rattle.std.specs.Ordering.{nat_cmp}
 use Rattle.std.proofs.Math.Bool.{and-false}
 use Rattle.std.proofs.lemmas.Bool.{cases_Bool, eq-eqb, ne_eqb}
 use Rattle.std.proofs.lemmas.Bool.Decides.{eqb_tells}
-use Rattle.lemmas.proofs.Tests.{and_assoc, contradicts}
+use Rattle.lemmas.proofs.Tests.{and_assoc, contradicts, or-false}
 use Rattle.br_model.specs.Forward.Admission.{admit}
 use Rattle.br_model.specs.Forward.Class.{class, class_by, is_snooped, is_trapped_in, crosses}
 use Rattle.br_model.specs.Table.Domains.{Domains, foreign, host, port_places}
@@ -83,11 +83,7 @@ one-set f q on none set empty is made = made ∙ same_below _ _ port_places (λ 
 ])
 
 in-one : (xs : List ℕ) (q m : ℕ) → xs ≡ q ∷ [] → has nat_cmp xs m ≡ (m == q)
-in-one xs q m e = ap (λ (ns : List ℕ). has nat_cmp ns m) e ∙ has-is (q ∷ []) m ∙ last (m == q)
-  where
-    last : (b : Bool) → (b || false) ≡ b
-    last true = refl
-    last false = refl
+in-one xs q m e = ap (λ (ns : List ℕ). has nat_cmp ns m) e ∙ has-is (q ∷ []) m ∙ or-false (m == q)
 
 pub one-out : (t : Table) (p vid : ℕ) (head : Head) (msg : McastMsg) (q : ℕ) (takes : Bool) (none ports : List ℕ) → to_tree t p head ≡ false → admit t p head ≡ Some vid
     → known_port t vid head.dst ≡ Some q → none ≡ [] → takes ≡ may t p q vid → ports ≡ placed none q takes → ports ≡ ports_out t p head msg

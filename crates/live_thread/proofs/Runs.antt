@@ -46,9 +46,3 @@ same_history w s e = not_less (length w.history) (length (world_step w s).0.hist
 -- a step that accepts nothing needs no publication
 pub nothing_to_publish : (w : World) (s : Step) → (world_step w s).0.history ≡ w.history → ArePublished w (s ∷ [])
 nothing_to_publish w s e = ((λ accepts. absurd (true≢false (sym accepts ∙ same_history w s e))), tt)
-
--- what holds of each of these steps holds of each later one
-pub all_later : (f : Step → Bool) (n : ℕ) (steps : List Step) → list_all f steps ≡ true → list_all f (drop n steps) ≡ true
-all_later f zero steps h = h
-all_later f (suc n) [] h = refl
-all_later f (suc n) (s ∷ steps) h = all_later f n steps (second_so (f s) (list_all f steps) h)

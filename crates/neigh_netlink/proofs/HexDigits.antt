@@ -5,10 +5,10 @@ use Rattle.std.specs.Result.{MatchResult}
 use Rattle.std.specs.Str.{IsUtf8}
 use Rattle.std.proofs.lemmas.Str.{IsUtf8-from_ascii, IsUtf8-append}
 use Rattle.br_model.specs.Data.Digits.{bytes_from_hex, hex_of}
-use Rattle.br_model.proofs.Data.Hex.{given, encode_lower-is, ascii_by_test, utf8_by_test, pairs-given}
+use Rattle.br_model.proofs.Data.Hex.{given, encode_lower-is, ascii_by_test, sized-given, utf8_by_test}
 use Rattle.hex.specs.declared.error.FromHexError.{FromHexError}
 use Rattle.hex.specs.Hex.{IsBytes, decode_sized, lower_digits}
-use Rattle.hex.proofs.HexLemmas.{IsAscii-encode_with, decode_of-even, decode_sized-twice}
+use Rattle.hex.proofs.HexLemmas.{IsAscii-encode_with}
 
 -- a line of digits is UTF-8
 pub line-utf8 : (bytes : List ℕ) → IsBytes bytes → IsUtf8 (codes "nl " ++ (hex_of bytes ++ 10 ∷ []))
@@ -19,15 +19,9 @@ line-utf8 bytes h =
 
 -- The crate `hex` reads digits as the definitions say.
 
--- what is read of twice as many digits
-sized : (n : ℕ) (text : List ℕ) → length text ≡ 2 * n → given (decode_sized text n) ≡ bytes_from_hex text
-sized n text h =
-    let even : length text % 2 ≡ 0 = omega (arith, h) in
-    ap given (decode_sized-twice text n h ∙ decode_of-even text even) ∙ pairs-given 0 text
-
 pub decoded : (n : ℕ) (text new : List ℕ) (answer : Result Unit FromHexError) → length text ≡ 2 * n
     → MatchResult (decode_sized text n) (λ bytes. (answer ≡ Ok tt) × (new ≡ bytes)) (λ e. answer ≡ Err e) → answer ≡ Ok tt → Some new ≡ bytes_from_hex text
-decoded n text new answer h value is = by (decode_sized text n) value ∙ sized n text h
+decoded n text new answer h value is = by (decode_sized text n) value ∙ sized-given n text h
   where
     by : (r : Result (List ℕ) FromHexError) → MatchResult r (λ bytes. (answer ≡ Ok tt) × (new ≡ bytes)) (λ e. answer ≡ Err e) → Some new ≡ given r
     by (Ok bytes) v = ap (λ (l : List ℕ). Some l) v.1
@@ -35,7 +29,7 @@ decoded n text new answer h value is = by (decode_sized text n) value ∙ sized 
 
 pub refused : (n : ℕ) (text new : List ℕ) (answer : Result Unit FromHexError) (fault : FromHexError) → length text ≡ 2 * n
     → MatchResult (decode_sized text n) (λ bytes. (answer ≡ Ok tt) × (new ≡ bytes)) (λ e. answer ≡ Err e) → answer ≡ Err fault → None ≡ bytes_from_hex text
-refused n text new answer fault h value is = by (decode_sized text n) value ∙ sized n text h
+refused n text new answer fault h value is = by (decode_sized text n) value ∙ sized-given n text h
   where
     by : (r : Result (List ℕ) FromHexError) → MatchResult r (λ bytes. (answer ≡ Ok tt) × (new ≡ bytes)) (λ e. answer ≡ Err e) → None ≡ given r
     by (Ok bytes) v = let is_ok = v.0 in absurd (cc)

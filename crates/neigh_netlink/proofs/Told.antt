@@ -12,6 +12,7 @@ use Rattle.std.proofs.lemmas.List.{length-take}
 use Rattle.std.proofs.lemmas.List.Sums.{fold-append}
 use Rattle.std.proofs.lemmas.Option.{same_Some}
 use Rattle.lemmas.proofs.Lists.{drop-length}
+use Rattle.lemmas.proofs.Tests.{and-false}
 use Rattle.br_model.specs.declared.change.Change.{Change}
 use Rattle.br_model.specs.declared.change.Kind.{Kind}
 use Rattle.br_model.specs.declared.change.Update.{Update}
@@ -119,11 +120,7 @@ module _ (edition : Edition) (counts : ℕ → Option ℕ) where
           let last : last_update edition (h ++ c ∷ []) q ≡ Some (under_ticket (deferred_count edition h) c) =
           last_update-push edition h c q ∙ ap (λ b. cond b (Some (under_ticket (deferred_count edition h) c)) (last_update edition h q)) its in
           let late : nat_lt (deferred_count edition h) n ≡ false = le-ltb (deferred_count edition h) n (bound n refl) in
-          sym (ap (λ o. option_map_or (puts_among n) o false) last ∙ ap (λ b. is_some (put_by (under_ticket (deferred_count edition h) c)) && b) late ∙ neither (is_some (puts c)))
-        where
-          neither : (b : Bool) → (b && false) ≡ false
-          neither true = refl
-          neither false = refl
+          sym (ap (λ o. option_map_or (puts_among n) o false) last ∙ ap (λ b. is_some (put_by (under_ticket (deferred_count edition h) c)) && b) late ∙ and-false (is_some (puts c)))
 
       old : is_of_key q c ≡ false → last_update edition h q ≡ last_update edition (h ++ c ∷ []) q
       old other = sym (last_update-push edition h c q ∙ ap (λ b. cond b (Some (under_ticket (deferred_count edition h) c)) (last_update edition h q)) other)

@@ -56,6 +56,7 @@ use Rattle.br_model.specs.Text.Words.{is_word}
 use Rattle.br_model.specs.Theorems.Applied.{accepted_in}
 use Rattle.br_model.specs.Theorems.Invariants.{IsWorld}
 use Rattle.br_model.specs.Wire.Frames.{frame, head_of, number_at, tag_of, tag_type}
+use Rattle.br_model.proofs.Data.Lists.{list_all-drop}
 use Rattle.br_model.proofs.Plane.Growing.{few-deferred}
 use Rattle.br_model.proofs.Plane.Chips.{chip-each, chip_of-at, put-all}
 use Rattle.br_model.proofs.Plane.Kept.{first-world, step-world}
@@ -72,11 +73,6 @@ use Rattle.neigh_netlink.proofs.FineChanges.{AllFine, Comes, IsFine, Leaves, Tea
 use Rattle.neigh_netlink.proofs.TakenRuns.{run-followed}
 
 -- The source of a frame has 48 bits.
-
-drop-all : (n : ℕ) (bytes : List ℕ) → list_all is_byte bytes ≡ true → list_all is_byte (drop n bytes) ≡ true
-drop-all zero bytes h = h
-drop-all (suc n) [] h = refl
-drop-all (suc n) (b ∷ bytes) h = drop-all n bytes (second_so (is_byte b) _ h)
 
 -- 256 times as much, so many times
 abbrev up : ℕ → ℕ → ℕ
@@ -112,7 +108,7 @@ source-is bytes head e =
 source-small : (bytes : List ℕ) (head : Head) → frame bytes ≡ Ok head → list_all is_byte (shown bytes) ≡ true → nat_lt head.src (2 ^ 48) ≡ true
 source-small bytes head e are =
     ap (λ n. nat_lt n (2 ^ 48)) (source-is (shown bytes) head (frame_shown bytes ∙ e))
-    ∙ lt-ltb (number_at (shown bytes) 6 6) (2 ^ 48) (spelled-below 6 (drop 6 (shown bytes)) 0 1 (drop-all 6 (shown bytes) are) (omega arith))
+    ∙ lt-ltb (number_at (shown bytes) 6 6) (2 ^ 48) (spelled-below 6 (drop 6 (shown bytes)) 0 1 (list_all-drop is_byte 6 (shown bytes) are) (omega arith))
 
 -- What is kept of frames: sources of 48 bits, and reports of stations.
 

@@ -20,7 +20,7 @@ use Rattle.br_model.specs.Text.Scenario.{Scenario, Ending, Going, Ended, Bad, Pr
 use Rattle.br_model.specs.Text.Scenario.{closes_at, longest_line, opened, read, scenario_by, section_length, takes, takes_steps, whole_says}
 use Rattle.br_model.specs.Theorems.WholeLines.{is_line}
 use Rattle.br_model.specs.Wire.Captures.{packets}
-use Rattle.br_model.proofs.Text.Endings.{behind_at, has_ended, read_ended}
+use Rattle.br_model.proofs.Text.Endings.{behind_at, closes_within, has_ended, read_ended}
 use Rattle.br_model.proofs.Text.Fronts.{front_none}
 use Rattle.br_model.proofs.Text.Reading.{closes_keeps, read_bad, read_line, read_part, read_rest, reads_so}
 use Rattle.scenario_reader.specs.declared.reader.Captured.{Captured as Gave}
@@ -251,17 +251,12 @@ module _ (check : Bool) (s : Scenario) (line : List ℕ) (n : ℕ) (x : ReaderSt
       } in
       subst (λ (q : Roster). AreSound check q steps) (sym h.follows.roster) here
 
-  closes_so : (d : Ending) → d ≡ Going → (closes_at d s []).ending ≡ Bad (s.lines + 1) Unended
-  closes_so Going e = refl
-  closes_so Ended e = absurd (cc)
-  closes_so (Bad k why) e = absurd (cc)
-
   -- which is cut off
   pub cut_off : (part : List ℕ) (end : End) → length part < n → end.last ≡ None → end.close ≡ lasts.Bad x.lines Unended → end.left ≡ 0
       → Finishes check (line ++ 10 ∷ part) (read 0 s (line ++ 10 ∷ part)) x steps end
   cut_off part end short told close left =
       ends_within check s (line ++ 10 ∷ part) x steps sound_there end [] h.all_steps h.going (read_part s (Captures n) line part h.going h.feedless h.says short) told
-      (closes_so s.ending h.going ∙ ap (λ k. Bad k Unended) (sym h.follows.lines) ∙ sym (ap ending_of close))
+      (closes_within s.ending s h.going ∙ ap (λ k. Bad k Unended) (sym h.follows.lines) ∙ sym (ap ending_of close))
       (λ e. let over : lasts.Bad x.lines Unended ≡ lasts.Ended = sym close ∙ e in absurd (cc))
       left
 

@@ -13,6 +13,7 @@ use Rattle.br_model.specs.Program.Runs.{run_of, setup_of, body_of}
 use Rattle.br_model.specs.Text.Scenario.{Scenario, bad, takes, whole_says}
 use Rattle.br_model.specs.Table.Setup.{Setup}
 use Rattle.br_model.specs.Text.Transcript.{text}
+use Rattle.br_model.proofs.Program.SameRuns.{no_steps, same_run}
 use Rattle.br_model.proofs.Plane.Running.{run_push, run_none, text-append}
 use Rattle.scenario_reader.specs.declared.reader.Last.{Last}
 use Rattle.scenario_reader.specs.declared.reader.Next.TheVariants as read
@@ -26,14 +27,6 @@ use Rattle.scenario_runner.specs.Session.{Agrees, EndsBy, Follows, IsAmongSteps,
 use Rattle.run_world.proofs.Saying.{says_none, says_on}
 
 -- lines without a step
-
--- the same run, where no step and nothing of the setup came
-pub same_run : (s t : Scenario) → setup_of t.roster ≡ setup_of s.roster → t.steps ≡ s.steps → run_of t ≡ run_of s
-same_run s t p e = ap (λ (x : Setup). run x t.steps) p ∙ ap (run (setup_of s.roster)) e
-
--- a run without steps writes nothing, whatever the setup
-pub no_steps : (s : Scenario) → s.steps ≡ [] → body_of (run_of s) ≡ codes "transcript 1" ++ 10 ∷ []
-no_steps s e = ap (λ (steps : List Step). body_of (run (setup_of s.roster) steps)) e ∙ ap body_of (run_none (setup_of s.roster))
 
 -- what was said stays said
 pub said_on : (s t : Scenario) (v : Voice) → IsSaid s v → t.steps ≡ s.steps → setup_of t.roster ≡ setup_of s.roster → IsSaid t v

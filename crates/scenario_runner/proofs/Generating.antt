@@ -3,7 +3,7 @@ use Rattle.std.proofs.Common.{◌≡◌, ℕ, ◌<◌, List, [], ◌++◌, lengt
 use Rattle.std.specs.Io.KnownBytes.{Appends}
 use Rattle.std.proofs.KnownBytes.{Appends-trans}
 use Rattle.std.proofs.lemmas.List.{append-nil}
-use Rattle.scenario_text.specs.Generating.{At, text_left}
+use Rattle.scenario_generator.specs.Generating.{At, text_left}
 use Rattle.scenario_runner.specs.Generating.{Together}
 use Rattle.run_status.specs.Writing.{Breaks, Moves, Written}
 use Rattle.run_status.proofs.Writing.{breaks_behind, broken, moved, started_written}

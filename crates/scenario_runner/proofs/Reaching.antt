@@ -12,6 +12,7 @@ use Rattle.br_model.specs.Program.Outcomes.{scenario_lines}
 use Rattle.br_model.specs.Plane.Runs.{run}
 use Rattle.br_model.specs.Program.Runs.{run_of, setup_of, body_of, body, body_parts}
 use Rattle.br_model.specs.Text.Scenario.{Scenario, Going, Progress, opened, closes, read, reads, scenario}
+use Rattle.br_model.proofs.Program.SameRuns.{same_run}
 use Rattle.br_model.proofs.Program.AllLeft.{below_limit, not_too_long, same_at_end, same_with_more}
 use Rattle.br_model.proofs.Text.Endings.{has_ended, closes_ended}
 use Rattle.br_model.proofs.Text.MoreBytes.{all_parts, parts_stay}
@@ -21,7 +22,7 @@ use Rattle.scenario_reader.specs.Reading.{KeepsSetup, ending_of}
 use Rattle.scenario_runner.specs.declared.session.Session.{Session}
 use Rattle.scenario_runner.specs.Playing.{Reached, Played, Stopped, Lacked}
 use Rattle.scenario_runner.specs.Session.{Agrees}
-use Rattle.scenario_runner.proofs.Following.{kept, quiet, quiet_said, same_run}
+use Rattle.scenario_runner.proofs.Following.{kept, quiet, quiet_said}
 
 -- what the body of bytes is, by what they say
 body_by : (bytes : List ℕ) (s : Scenario) → scenario bytes ≡ s → body bytes ≡ body_of (run_of s)

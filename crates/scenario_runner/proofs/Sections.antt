@@ -10,7 +10,8 @@ use Rattle.br_model.specs.Wire.Captures.{packets}
 use Rattle.br_model.specs.Text.Roster.{Roster, chips_of}
 use Rattle.br_model.specs.Program.Runs.{run_of, body_of}
 use Rattle.br_model.specs.Text.Scenario.{Scenario, Ending, Going, Ended, Bad, Progress, bad, captured, closes_at, read, takes, takes_steps}
-use Rattle.br_model.proofs.Text.Endings.{read_ended}
+use Rattle.br_model.proofs.Program.SameRuns.{same_run}
+use Rattle.br_model.proofs.Text.Endings.{closes_within, read_ended}
 use Rattle.br_model.proofs.Text.Reading.{read_line, read_part}
 use Rattle.scenario_reader.specs.declared.reader.Captured.{Captured}
 use Rattle.scenario_reader.specs.declared.reader.Captured.TheVariants as sections
@@ -23,7 +24,7 @@ use Rattle.scenario_runner.specs.declared.session.Session.{Session}
 use Rattle.scenario_runner.specs.Advancing.{Sectioned}
 use Rattle.scenario_runner.specs.Playing.{Reached, AtSection, AtSteps, Played, Stopped, Below, Filled}
 use Rattle.scenario_runner.specs.Session.{Agrees, ComeByLine, with_steps}
-use Rattle.scenario_runner.proofs.Following.{same_run, agrees_badly, said_on}
+use Rattle.scenario_runner.proofs.Following.{agrees_badly, said_on}
 use Rattle.scenario_runner.proofs.Reaching.{reached_more, reached_line, lacked_all, ended, stops, at_end}
 
 -- a line `capture` without its section has no steps
@@ -109,12 +110,7 @@ module _ (left now now' : Option (List ℕ)) (limit : ℕ) (r r' : Reading) (x :
       ∙ ap (read 0 s) (append-nil (front ++ part) ∙ append_assoc p.line (10 ∷ []) part)
       ∙ read_part s (Captures n) p.line part p.going p.feedless p.says short in
       at_end left limit now' r' s (front ++ part) (reached_more left limit now now' r r' s front part p.reached m within).0 [] is x text (lasts.Bad x.reader.lines Unended) at
-      (closes_so s.ending p.going ∙ ap (λ k. Bad k Unended) (sym p.follows.reads.lines)) agrees told_before
-    where
-      closes_so : (d : Ending) → d ≡ Going → (closes_at d s []).ending ≡ Bad (s.lines + 1) Unended
-      closes_so Going e = refl
-      closes_so Ended e = absurd (cc)
-      closes_so (Bad k why) e = absurd (cc)
+      (closes_within s.ending s p.going ∙ ap (λ k. Bad k Unended) (sym p.follows.reads.lines)) agrees told_before
 
   -- no more of it comes
   waits : (m : Reads r r' now now' []) (within : r'.taken ≤ r'.limit) → length r'.held < n

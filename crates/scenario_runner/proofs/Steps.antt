@@ -7,6 +7,7 @@ use Rattle.br_model.specs.declared.scenario.LineWhy.TheVariants.{Long}
 use Rattle.br_model.specs.declared.scenario.Said.{Said}
 use Rattle.br_model.specs.Program.Runs.{run_of, body_of}
 use Rattle.br_model.specs.Text.Scenario.{Scenario, Bad, Progress, closes, bad, read, takes, section_length, whole_says, longest_line}
+use Rattle.br_model.proofs.Program.SameRuns.{same_run}
 use Rattle.br_model.proofs.Text.Endings.{has_ended, read_ended}
 use Rattle.br_model.proofs.Text.Reading.{read_line, read_bad, read_rest, read_long}
 use Rattle.scenario_reader.specs.declared.reader.Last.{Last}
@@ -21,7 +22,7 @@ use Rattle.scenario_runner.specs.declared.session.Session.{Session}
 use Rattle.scenario_runner.specs.Advancing.{Advanced, Lessens}
 use Rattle.scenario_runner.specs.Playing.{Reached, Playing, AtSection, Played, Below, Filled, Lacked}
 use Rattle.scenario_runner.specs.Session.{EndsBy, Takes, Went}
-use Rattle.scenario_runner.proofs.Following.{same_run, agrees, agrees_badly}
+use Rattle.scenario_runner.proofs.Following.{agrees, agrees_badly}
 use Rattle.scenario_runner.proofs.Reaching.{reached_more, reached_line, lacked_all, ended, stops, at_end}
 
 pub ends_so : (l : Last) → has_ended (ending_of l) ≡ true

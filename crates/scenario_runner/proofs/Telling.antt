@@ -17,7 +17,7 @@ use Rattle.br_model.specs.declared.transcript.Line.TheVariants.{End}
 use Rattle.br_model.specs.Program.Runs.{run_of, body_of, body, body_parts, told, last_text, setup_of}
 use Rattle.br_model.specs.Text.Scenario.{Scenario, Ending, opened, scenario}
 use Rattle.br_model.specs.Text.Transcript.{line_text, text as lines_text}
-use Rattle.br_model.proofs.Plane.Running.{run_none}
+use Rattle.br_model.proofs.Program.SameRuns.{no_steps, no_steps_end}
 use Rattle.scenario_runner.specs.declared.replay.Halt.{Halt}
 use Rattle.scenario_runner.specs.declared.replay.Halt.TheVariants.{Stopped, WriteFault}
 use Rattle.run_status.specs.declared.stop.Stop.{Stop}
@@ -33,7 +33,6 @@ use Rattle.run_status.specs.Statuses.{first_line}
 use Rattle.scenario_runner.specs.Playing.{Playing, Played}
 use Rattle.scenario_reader.specs.Reading.{ReaderState, ending_of}
 use Rattle.scenario_runner.specs.Session.{Follows, IsSaid, IsWorld, end_line_of, last_line}
-use Rattle.scenario_runner.proofs.Following.{no_steps}
 use Rattle.scenario_runner.proofs.Reaching.{lacked_all, lacks_none}
 use Rattle.run_status.proofs.Writing.{broken, moved, nothing_wrote}
 
@@ -68,13 +67,8 @@ grown before after old new all w = record { gone = w.gone; wrote = w.wrote; toge
 
 -- the last line
 
-none_pending : (setup : Setup) (doms : List ℕ) → sum_by (pending_of (first_world setup)) (map first_chip doms) ≡ 0
-none_pending setup [] = refl
-none_pending setup (dom ∷ doms) = none_pending setup doms
-
 last_world : (s : Scenario) (w : Option World) → IsWorld s w → end_line_of w ≡ end_line (run_of s).0
-last_world s None h = ap (λ (n : ℕ). End 0 0 n 0) (sym (none_pending (setup_of s.roster) (chip_domains (setup_of s.roster).domains)))
-    ∙ sym (ap (λ (x : Stepped). end_line x.0) (ap (run (setup_of s.roster)) h ∙ run_none (setup_of s.roster)))
+last_world s None h = sym (no_steps_end s h)
 last_world s (Some w) h = ap end_line h.0
 
 last_is : (s : Scenario) (w : Option World) (last : Last) → IsWorld s w → last_line last w ≡ last_text (ending_of last) (run_of s).0

@@ -4,7 +4,7 @@ use Rattle.std.specs.String.{string_len, string_capacity}
 use Rattle.std.specs.declared.option.Option.{Option}
 use Rattle.run_io.specs.declared.output.Output.{Output}
 use Rattle.run_io.specs.Writing.{full_length}
-use Rattle.scenario_text.specs.Generating.{At, text_left}
+use Rattle.scenario_generator.specs.Generating.{At, text_left}
 use Rattle.run_status.specs.Writing.{Written}
 
 -- There is room for a frame's lines more, and for the last line, where the output isn't full by much.

@@ -26,7 +26,7 @@ use run_status::{Status, Stop, end_with, end_without_memory, put_last};
 use run_world::voice::Voice;
 use run_world::{Asking, Monitor};
 use scenario_reader::Last;
-use scenario_text::{Generator, append_opening};
+use scenario_generator::{Generator, append_opening};
 use std::alloc::Global;
 use std::sync::Wait;
 

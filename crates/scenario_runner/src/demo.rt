@@ -11,7 +11,7 @@ ghost use Rattle.scenario_runner.specs.Counting.{Adds, AddsSent, RunsOn};
 ghost use Rattle.br_model.specs.Table.Domains.{chip_domains};
 ghost use Rattle.br_model.specs.Text.LineForms.{comes_by_line};
 ghost use Rattle.plane_parts.specs.Added.{Added};
-ghost use Rattle.scenario_text.specs.Stepping.{step_of};
+ghost use Rattle.scenario_generator.specs.Stepping.{step_of};
 ghost use Rattle.run_world.specs.Worlds.{Tells};
 
 use br_model::NoMemory;
@@ -21,7 +21,7 @@ use br_model::steps::Step;
 use br_model::transcript::Line;
 use port_sets::Ports;
 use run_world::World;
-use scenario_text::{FrameSteps, Made, domains, first_steps};
+use scenario_generator::{FrameSteps, Made, domains, first_steps};
 use std::alloc::{AllocError, Global};
 use std::sync::Wait;
 use transcript_lines::{Lines, Row};

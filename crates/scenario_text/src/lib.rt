@@ -15,8 +15,4 @@ pub use br_model::NoMemory;
 pub use head::{append_head, append_scenario, write_head};
 pub use listing::{device, list};
 pub use reading::{read_line, says_end};
-pub use scenario_generator::{
-    END_BYTES, FrameSteps, Generator, MOST_FRAME_BYTES, Made, OPENING_BYTES, append_opening,
-    domains, first_steps, generate,
-};
 pub use write::{append_line, write_line};

@@ -26,6 +26,7 @@ use Rattle.check_world.specs.Worlds.{Tells}
 use Rattle.br_model.proofs.Plane.Applied.{step-setup}
 use Rattle.br_model.proofs.Plane.Kept.{step-world}
 use Rattle.br_model.proofs.Plane.Running.{run_none, run_push, text-append}
+use Rattle.br_model.proofs.Program.SameRuns.{no_steps, no_steps_end, same_run}
 use Rattle.scenario_reader.specs.declared.reader.Last.{Last}
 use Rattle.scenario_reader.specs.declared.reader.Last.TheVariants as lasts
 use Rattle.scenario_reader.specs.Reading.{Follows, IsBehindDeclarations, KeepsSetup, ReaderState, ending_of}
@@ -35,13 +36,6 @@ use Rattle.whole_texts.specs.Telling.{Does, DoesAll, HasRun, IsOver, IsReady, Is
 use Rattle.whole_texts.specs.Texts.{TellsWhole, ends_well}
 
 -- without a step
-
--- nothing is told then, whatever is declared
-no_steps : (s : Scenario) → s.steps ≡ [] → body_of (run_of s) ≡ codes "transcript 1" ++ 10 ∷ []
-no_steps s e = ap (λ (steps : List Step). body_of (run (setup_of s.roster) steps)) e ∙ ap body_of (run_none (setup_of s.roster))
-
-same_run : (s t : Scenario) → setup_of t.roster ≡ setup_of s.roster → t.steps ≡ s.steps → run_of t ≡ run_of s
-same_run s t setup steps = ap (λ (x : Setup). run x t.steps) setup ∙ ap (run (setup_of s.roster)) steps
 
 pub kept : (r : Roster) → KeepsSetup r r
 kept r = (refl, λ behind. (behind, (refl, refl)))
@@ -182,14 +176,8 @@ nothing_left (step ∷ steps) h = absurd (omega (arith, h))
 
 -- the last line
 
-none_pending : (setup : Setup) (doms : List ℕ) → sum_by (pending_of (first_world setup)) (map first_chip doms) ≡ 0
-none_pending setup [] = refl
-none_pending setup (dom ∷ doms) = none_pending setup doms
-
 last_world : (s : Scenario) (w : Option World) → HasRun s w → end_line_of w ≡ end_line (run_of s).0
-last_world s None h =
-    ap (λ (n : ℕ). End 0 0 n 0) (sym (none_pending (setup_of s.roster) (chip_domains (setup_of s.roster).domains)))
-    ∙ sym (ap (λ (x : Stepped). end_line x.0) (ap (run (setup_of s.roster)) h ∙ run_none (setup_of s.roster)))
+last_world s None h = sym (no_steps_end s h)
 last_world s (Some w) h = ap end_line h.0
 
 last_is : (s : Scenario) (w : Option World) (last : Last) → HasRun s w → last_line last w ≡ last_text (ending_of last) (run_of s).0

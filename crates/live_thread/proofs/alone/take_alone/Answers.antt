@@ -7,7 +7,7 @@ use Rattle.br_model.specs.Table.Domains.{Domains, chip_domains}
 use Rattle.br_model.specs.Text.LineForms.{comes_by_line}
 use Rattle.plane_record.specs.Pasts.{Past}
 use Rattle.live_thread.proofs.Lives.{live_alone}
-use Rattle.live_thread.proofs.Runs.{all_later}
+use Rattle.br_model.proofs.Data.Lists.{list_all-drop}
 use Rattle.live_thread.proofs.Standing.{idle_first}
 use Rattle.live_thread.proofs.alone.take_alone.Goals as goal
 
@@ -26,7 +26,7 @@ take_steps-requires-clause-by_line g c =
     subst (λ (l : List Step). list_all (comes_by_line false (chip_domains c.open.new.ran.setup.domains)) l ≡ true) (sym (take_rest c.args.steps.now c.in_ok-later.later))
     (ap (λ (p : Past). list_all (comes_by_line false (chip_domains p.setup.domains)) (drop c.in_ok-later.later c.args.steps.now)) c.in_ok-later.ensures.opened
     ∙ (ap (λ (d : Domains). list_all (comes_by_line false (chip_domains d)) (drop c.in_ok-later.later c.args.steps.now)) c.requires.domains
-    ∙ all_later (comes_by_line false (chip_domains c.args.domains.now)) c.in_ok-later.later c.args.steps.now c.requires.by_line))
+    ∙ list_all-drop (comes_by_line false (chip_domains c.args.domains.now)) c.in_ok-later.later c.args.steps.now c.requires.by_line))
 
 pub drain-requires-clause-seat : goal.drain-requires-clause-seat
 drain-requires-clause-seat g c =

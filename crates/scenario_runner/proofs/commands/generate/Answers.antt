@@ -1,5 +1,5 @@
 use Rattle.std.proofs.Common.{◌++◌, List, ℕ, ap, ◌∙◌}
-use Rattle.scenario_text.specs.Generating.{text_left}
+use Rattle.scenario_generator.specs.Generating.{text_left}
 use Rattle.scenario_runner.proofs.Generating.{all_broke, all_put, together_first}
 use Rattle.run_status.proofs.Ends.{writes, writes_front, writes_nothing}
 use Rattle.scenario_runner.proofs.commands.generate.Goals as goal

@@ -1,6 +1,6 @@
 use Rattle.std.proofs.Common.{arith, ap}
 use Rattle.lemmas.proofs.Endings.{OnErr_from}
-use Rattle.scenario_text.specs.Generating.{At}
+use Rattle.scenario_generator.specs.Generating.{At}
 use Rattle.scenario_runner.proofs.Generating.{together_breaks, together_more}
 use Rattle.scenario_runner.proofs.commands.put_frames.Goals as goal
 

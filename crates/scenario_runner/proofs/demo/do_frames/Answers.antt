@@ -3,7 +3,7 @@ use Rattle.br_model.specs.declared.steps.Step.{Step}
 use Rattle.br_model.specs.Table.Domains.{chip_domains}
 use Rattle.br_model.specs.Table.Setup.{Setup}
 use Rattle.br_model.specs.Text.LineForms.{comes_by_line}
-use Rattle.scenario_text.specs.Stepping.{step_of}
+use Rattle.scenario_generator.specs.Stepping.{step_of}
 use Rattle.scenario_runner.specs.Counting.{RunsOn}
 use Rattle.scenario_runner.proofs.Counting.{runs_none, runs_more}
 use Rattle.scenario_runner.proofs.demo.do_frames.Goals as goal

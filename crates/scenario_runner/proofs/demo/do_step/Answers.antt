@@ -2,7 +2,7 @@ use Rattle.std.proofs.Common.{◌++◌, List, ap, ◌∙◌, subst}
 use Rattle.br_model.specs.declared.transcript.Line.{Line}
 use Rattle.br_model.specs.Plane.World.{Stepped}
 use Rattle.br_model.proofs.Plane.Applied.{step-setup}
-use Rattle.scenario_text.specs.Stepping.{step_of}
+use Rattle.scenario_generator.specs.Stepping.{step_of}
 use Rattle.scenario_runner.specs.Counting.{Adds}
 use Rattle.scenario_runner.proofs.Counting.{runs_step}
 use Rattle.scenario_runner.proofs.demo.do_step.Goals as goal

@@ -1,6 +1,6 @@
 //! A generated scenario.
 use crate::tests::common::assert_bytes;
-use scenario_text::generate;
+use scenario_generator::generate;
 
 /// `gen 0 1`.
 const ONE_FRAME: &str = "\
