@@ -104,7 +104,7 @@ fn numbers_from(found: &ArgMatches) -> Option<(u64, u32)>
     ensures most { IfSome result (λ p. p.1 ≤ most_frames) }
 {
     let number = number_up_to(word_of(found, "number")?, u64::MAX)?;
-    let count = number_up_to(word_of(found, "count")?, u64::from(MOST_FRAMES))?;
+    let count = number_up_to(word_of(found, "count")?, MOST_FRAMES as u64)?;
     Some((number, count as u32))
 }
 
