@@ -22,16 +22,16 @@ use Rattle.br_model.specs.Control.TreeReaction.{states, tells_tree}
 use Rattle.br_model.specs.Tree.Sending.{Acted}
 use Rattle.br_model.specs.Tree.Step.{tree_step, moved, sent}
 use Rattle.br_model.proofs.Trees.Kept.{known-at}
-use Rattle.bridge_plans.specs.declared.faults.EventFault.{EventFault}
-use Rattle.bridge_plans.specs.declared.faults.EventFault.TheVariants.{Refused, NoMemory}
-use Rattle.bridge_plans.specs.declared.plan.Plan.{Plan}
+use Rattle.bridge_state.specs.declared.faults.EventFault.{EventFault}
+use Rattle.bridge_state.specs.declared.faults.EventFault.TheVariants.{Refused, NoMemory}
+use Rattle.bridge_state.specs.declared.plan.Plan.{Plan}
 use Rattle.bridge_core.specs.Answers.{CarriesQuietly, Makes, Reacts}
-use Rattle.bridge_plans.specs.Following.{state_change}
+use Rattle.bridge_state.specs.Following.{state_change}
 use Rattle.bridge_core.specs.Kept.{Controlled}
-use Rattle.bridge_plans.specs.Plans.{IsSound, planned, prepared}
-use Rattle.bridge_plans.specs.Standing.{clocked}
-use Rattle.bridge_plans.proofs.Fitting.{made_all, all_fit_any, always-map, fit_behind}
-use Rattle.bridge_plans.proofs.Reactions.{same_clock, same_tree, renewed_clock, renewed_tree}
+use Rattle.bridge_state.specs.Plans.{IsSound, planned, prepared}
+use Rattle.bridge_state.specs.Standing.{clocked}
+use Rattle.bridge_state.proofs.Fitting.{made_all, all_fit_any, always-map, fit_behind}
+use Rattle.bridge_state.proofs.Reactions.{same_clock, same_tree, renewed_clock, renewed_tree}
 
 -- the states of a tree fit any table
 pub states_fit : (t : Table) (tree : Tree) (ports : List ℕ) → knows_states tree ≡ true → all_fit t (map (state_change tree) ports) ≡ true

@@ -18,18 +18,18 @@ use Rattle.br_model.specs.Control.Reaction.{Reaction, in_room}
 use Rattle.br_model.specs.Control.Snooping.{fastleave}
 use Rattle.br_model.specs.Table.Table.{Table, table, apply}
 use Rattle.br_model.specs.Forward.Targets.{has_flag}
-use Rattle.bridge_plans.specs.declared.faults.EventFault.{EventFault}
-use Rattle.bridge_plans.specs.declared.plan.Plan.{Plan}
-use Rattle.bridge_plans.specs.declared.snooping.Speaker.{Speaker}
-use Rattle.bridge_plans.specs.declared.state.State.{State}
+use Rattle.bridge_state.specs.declared.faults.EventFault.{EventFault}
+use Rattle.bridge_state.specs.declared.plan.Plan.{Plan}
+use Rattle.bridge_state.specs.declared.snooping.Speaker.{Speaker}
+use Rattle.bridge_state.specs.declared.state.State.{State}
 use Rattle.bridge_core.specs.Answers.{Reacts}
-use Rattle.bridge_plans.specs.Hearing.{Hears}
+use Rattle.bridge_state.specs.Hearing.{Hears}
 use Rattle.bridge_core.specs.Kept.{Controlled}
-use Rattle.bridge_plans.specs.Plans.{IsSound, planned, prepared}
-use Rattle.bridge_plans.specs.Standing.{clocked, table_of}
+use Rattle.bridge_state.specs.Plans.{IsSound, planned, prepared}
+use Rattle.bridge_state.specs.Standing.{clocked, table_of}
 use Rattle.bridge_core.proofs.Accepting.{untold}
-use Rattle.bridge_plans.proofs.Endings.{same_ends, same_ports, tied-but_addresses}
-use Rattle.bridge_plans.proofs.Reactions.{same_clock, renewed_clock, renewed_ends}
+use Rattle.bridge_state.proofs.Endings.{same_ends, same_ports, tied-but_addresses}
+use Rattle.bridge_state.proofs.Reactions.{same_clock, renewed_clock, renewed_ends}
 
 -- the ends of a bridge are tied, as those of what it keeps are
 pub tied_as : (state : State) (seen old : Controlled) → seen ≡ old → table_of state ≡ table seen.history → IsTied (table_of state) seen.control.ends → IsTied (table old.history) old.control.ends

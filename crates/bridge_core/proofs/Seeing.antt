@@ -16,18 +16,18 @@ use Rattle.br_model.specs.Table.Setup.{Setup}
 use Rattle.br_model.specs.Control.Snooping.{snoops}
 use Rattle.br_model.specs.Table.Table.{Table, table, with_addresses}
 use Rattle.br_model.specs.Control.TreeReaction.{heard, tells_tree}
-use Rattle.bridge_plans.specs.declared.plan.Plan.{Plan}
+use Rattle.bridge_state.specs.declared.plan.Plan.{Plan}
 use Rattle.bridge_core.specs.Answers.{carried_out, standing}
-use Rattle.bridge_plans.specs.Plans.{IsSound, renewed_at}
-use Rattle.bridge_plans.specs.Standing.{clocked}
+use Rattle.bridge_state.specs.Plans.{IsSound, renewed_at}
+use Rattle.bridge_state.specs.Standing.{clocked}
 use Rattle.br_model.specs.Data.Maps.{pair_cmp, get}
 use Rattle.br_model.specs.Table.Limits.{all_fit}
 use Rattle.std.specs.Prelude.{IfSome, IsSome}
-use Rattle.bridge_plans.specs.Hearing.{most}
+use Rattle.bridge_state.specs.Hearing.{most}
 use Rattle.bridge_core.specs.Kept.{Controlled}
-use Rattle.bridge_plans.specs.Lessons.{IsTaught, of_bridge}
-use Rattle.bridge_plans.proofs.Reactions.{heard_alone}
-use Rattle.bridge_plans.proofs.Speaking.{tree-hears-alone, unheard-quiet}
+use Rattle.bridge_state.specs.Lessons.{IsTaught, of_bridge}
+use Rattle.bridge_state.proofs.Reactions.{heard_alone}
+use Rattle.bridge_state.proofs.Speaking.{tree-hears-alone, unheard-quiet}
 
 -- Where somebody is heard, the spanning tree is told nothing.
 pub told-nothing : (t : Table) (port : ℕ) (bytes : List ℕ) (head : Head) (m : McastMsg) → m ≡ message bytes head → 0 < most m → heard t port bytes head ≡ None

@@ -18,13 +18,13 @@ use Rattle.br_model.specs.Control.Reaction.{Reaction, happens, has_room, in_room
 use Rattle.br_model.specs.Table.Limits.{most_changes}
 use Rattle.br_model.specs.Table.Table.{table}
 use Rattle.bridge_core.specs.declared.bridge.Reaction.{Reaction as Reacted}
-use Rattle.bridge_plans.specs.declared.faults.EventFault.{EventFault}
-use Rattle.bridge_plans.specs.declared.faults.EventFault.TheVariants.{Refused, NoMemory}
-use Rattle.bridge_plans.specs.declared.plan.Plan.{Plan}
-use Rattle.bridge_plans.specs.declared.snooping.Speaker.{Speaker}
-use Rattle.bridge_plans.specs.Hearing.{Hears, most, says}
+use Rattle.bridge_state.specs.declared.faults.EventFault.{EventFault}
+use Rattle.bridge_state.specs.declared.faults.EventFault.TheVariants.{Refused, NoMemory}
+use Rattle.bridge_state.specs.declared.plan.Plan.{Plan}
+use Rattle.bridge_state.specs.declared.snooping.Speaker.{Speaker}
+use Rattle.bridge_state.specs.Hearing.{Hears, most, says}
 use Rattle.bridge_core.specs.Kept.{Controlled}
-use Rattle.bridge_plans.specs.Plans.{Plans, planned}
+use Rattle.bridge_state.specs.Plans.{Plans, planned}
 
 -- Each moment is before 2^53, and what a sight says of its frame is what the frame says.
 abbrev pub IsEvent : Event → Type 0

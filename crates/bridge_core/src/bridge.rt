@@ -19,9 +19,9 @@ ghost use Rattle.br_model.specs.declared.steps.Command.TheVariants as Command;
 ghost use Rattle.br_model.specs.declared.steps.Event.TheVariants as Event;
 ghost use Rattle.br_model.specs.declared.steps.Event.TheVariants.{Cmd, Forget, Moment, Sight};
 ghost use Rattle.bridge_core.specs.Answers.{CarriesOut, CarriesQuietly, HasRoomFor, IsEvent, LacksRoomFor, Makes, PlansOf, Reacts, carried_out, comes_to, ctl_of, standing};
-ghost use Rattle.bridge_plans.specs.Hearing.{most, says};
-ghost use Rattle.bridge_plans.specs.Plans.{IsSound, renewed_at};
-ghost use Rattle.bridge_plans.specs.Standing.{clocked};
+ghost use Rattle.bridge_state.specs.Hearing.{most, says};
+ghost use Rattle.bridge_state.specs.Plans.{IsSound, renewed_at};
+ghost use Rattle.bridge_state.specs.Standing.{clocked};
 ghost use Rattle.fdb_core.specs.Fdb.{place};
 
 use br_model::NoMemory;
@@ -32,14 +32,14 @@ use br_model::limits::MOST_CHANGES;
 use br_model::numbers::{Mac, Port, Vid};
 use br_model::steps::{Command, Event, Refusal, Triples};
 use br_model::tree::TreeEvent;
-use bridge_plans::EventFault;
-use bridge_plans::ageing::{loses, passes_to};
-use bridge_plans::commands::{link_change, obey};
-use bridge_plans::learning::{Lesson, is_taken, learn, taught, teaches};
-use bridge_plans::plan::Plan;
-use bridge_plans::snooping::{Speaker, most_changes, who_speaks};
-use bridge_plans::spanning_tree::{add_frames, add_states, heard, reserve_frames};
-use bridge_plans::state::{Clock, State};
+use bridge_state::EventFault;
+use bridge_state::ageing::{loses, passes_to};
+use bridge_state::commands::{link_change, obey};
+use bridge_state::learning::{Lesson, is_taken, learn, taught, teaches};
+use bridge_state::plan::Plan;
+use bridge_state::snooping::{Speaker, most_changes, who_speaks};
+use bridge_state::spanning_tree::{add_frames, add_states, heard, reserve_frames};
+use bridge_state::state::{Clock, State};
 use fdb_core::{Entry, Key};
 use igmp_mld::classify;
 use std::alloc::Global;
@@ -72,7 +72,7 @@ impl Model for Bridge {
     ghost use Rattle.br_model.specs.Theorems.EndsTied.{IsTied};
     ghost use Rattle.br_model.specs.Table.Limits.{most_changes, all_fit};
     ghost use Rattle.br_model.specs.Table.Table.{table, start};
-    ghost use Rattle.bridge_plans.specs.Standing.{table_of, control_of};
+    ghost use Rattle.bridge_state.specs.Standing.{table_of, control_of};
 
     ghost view = { λ b. record { setup = record { domains = b.domains; own = b.own }; history = b.history.items; control = control_of b.state } };
 

@@ -7,5 +7,5 @@ pub mod bridge;
 
 pub use br_model::NoMemory;
 pub use bridge::{Bridge, Reaction};
-pub use bridge_plans::EventFault;
+pub use bridge_state::EventFault;
 pub use fdb_core::Entry;

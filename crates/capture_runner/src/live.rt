@@ -25,8 +25,7 @@ use port_workers::Gate;
 use run_io::sinks::Sink;
 use run_io::sources::Source;
 use run_io::whole::{Stop as Stand, take_all};
-use run_status::{Status, Stop, put_last};
-use run_text::bad_text;
+use run_status::{Status, Stop, bad_text, put_last};
 use scenario_reader::{Last, Whole, read_scenario};
 use scenario_runner::commands::status_of;
 use std::alloc::Global;
@@ -67,7 +66,7 @@ fn text_of(alloc: Global, roster: &Roster, taken: &Taken) -> Result<String, NoMe
         ++ (codes "transcript 1" ++ 10 ∷ (text_of taken.now.book.lines.lines ++ line_text taken.now.end))) }
 {
     let steps = taken.book.steps.as_slice();
-    run_text::live_text(alloc, roster, steps, &taken.book.lines, &taken.end)
+    run_status::live_text(alloc, roster, steps, &taken.book.lines, &taken.end)
 }
 
 /// A law: this number has no more than 32 bits.

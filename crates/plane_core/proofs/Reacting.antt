@@ -9,8 +9,8 @@ use Rattle.br_model.specs.Control.Control.{first_control}
 use Rattle.br_model.specs.Control.Reaction.{Reaction}
 use Rattle.br_model.specs.Table.Domains.{Domains}
 use Rattle.br_model.specs.Table.Setup.{Setup}
-use Rattle.bridge_plans.specs.declared.faults.EventFault.{EventFault}
-use Rattle.bridge_plans.specs.declared.faults.EventFault.TheVariants.{Refused, NoMemory}
+use Rattle.bridge_state.specs.declared.faults.EventFault.{EventFault}
+use Rattle.bridge_state.specs.declared.faults.EventFault.TheVariants.{Refused, NoMemory}
 use Rattle.bridge_core.specs.Kept.{Controlled}
 use Rattle.table_publish.specs.Board.{Shelf, all_of}
 use Rattle.table_publish.specs.Object.{first_object}

@@ -8,8 +8,8 @@ use Rattle.br_model.specs.Control.Reaction.{Reaction}
 use Rattle.br_model.specs.Plane.Chip.{Chip}
 use Rattle.br_model.specs.Plane.World.{World, accepts, after_lines, answered, control_lines}
 use Rattle.br_model.specs.Table.Setup.{Setup}
-use Rattle.bridge_plans.specs.declared.faults.EventFault.{EventFault}
-use Rattle.bridge_plans.specs.declared.faults.EventFault.TheVariants.{Refused, NoMemory}
+use Rattle.bridge_state.specs.declared.faults.EventFault.{EventFault}
+use Rattle.bridge_state.specs.declared.faults.EventFault.TheVariants.{Refused, NoMemory}
 use Rattle.plane_parts.specs.Added.{Added}
 use Rattle.plane_parts.specs.Queued.{Queued}
 use Rattle.plane_reactions.specs.Reacted.{Comes, Lasts, Reacted, Seen}

@@ -10,8 +10,8 @@ use Rattle.br_model.specs.Control.Reaction.{Reaction}
 use Rattle.br_model.specs.Plane.Chip.{Chip}
 use Rattle.br_model.specs.Plane.World.{World, Stepped, accepts, control_lines}
 use Rattle.br_model.specs.Table.Setup.{Setup}
-use Rattle.bridge_plans.specs.declared.faults.EventFault.{EventFault}
-use Rattle.bridge_plans.specs.declared.faults.EventFault.TheVariants.{Refused, NoMemory}
+use Rattle.bridge_state.specs.declared.faults.EventFault.{EventFault}
+use Rattle.bridge_state.specs.declared.faults.EventFault.TheVariants.{Refused, NoMemory}
 use Rattle.plane_parts.specs.Queued.{Queued}
 
 -- How something, S, is a bridge with what follows it.

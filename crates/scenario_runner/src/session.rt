@@ -16,7 +16,7 @@ use br_model::listing::Listing;
 use br_model::plain::table::Table;
 use br_model::steps::Step;
 use br_model::transcript::Line;
-use run_text::{bad_text, cut_if_torn};
+use run_status::{bad_text, cut_if_torn};
 use run_world::World;
 use run_world::voice::{Voice, begin, do_step, take_text};
 use scenario_reader::{Last, Next as Read, Reader};

@@ -1,11 +1,11 @@
 -- What holds of a board's fields, of its publications.
 use Rattle.std.proofs.Common.{◌+◌, ◌≤◌, length, ap, subst, arith, length-append}
 use Rattle.br_model.specs.Table.Limits.{most_changes}
-use Rattle.table_history.specs.Object.{AllFull, IsPublished, changes_of, object_of}
+use Rattle.table_publish.specs.Object.{AllFull, IsPublished, changes_of, object_of}
 use Rattle.table_publish.specs.Shelved.{IsShelved}
 use Rattle.table_publish.specs.declared.board.Board.TheInside.{Inside}
-use Rattle.table_history.proofs.Objects.{published_of}
-use Rattle.table_history.proofs.Publishing.{length-full}
+use Rattle.table_publish.proofs.Objects.{published_of}
+use Rattle.table_publish.proofs.Publishing.{length-full}
 
 pub shelved_full : (b : Inside) → IsShelved b → AllFull b.seen.log
 shelved_full b h = subst AllFull (ap (λ s. s.log) h.shown) h.table.full

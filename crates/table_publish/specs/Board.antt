@@ -1,7 +1,7 @@
 -- What contracts see of a board and its seats.
 use Rattle.std.specs.Prelude.{◌≡◌, ℕ, ◌<◌, ◌⊎◌, List, ◌++◌}
 use Rattle.br_model.specs.declared.change.Change.{Change}
-use Rattle.table_history.specs.Object.{Whose, Object, first_object}
+use Rattle.table_publish.specs.Object.{Whose, Object, first_object}
 
 -- which board it is, what it has published, and what it has not yet
 pub record Shelf : Type 0 where

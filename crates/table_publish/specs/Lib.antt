@@ -1,3 +1,7 @@
+pub mod Object
+pub mod Law
+pub mod Content
+pub mod Rule
+pub mod Packed
 pub mod Board
 pub mod Shelved
-pub use Rattle.table_history.specs.Object

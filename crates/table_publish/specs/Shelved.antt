@@ -2,10 +2,10 @@
 use Rattle.std.specs.Prelude.{◌≡◌, ◌≤◌, ◌++◌, [], length, drop, IsSome, IfSome}
 use Rattle.left_right.specs.Sides.{view as place_view}
 use Rattle.br_model.specs.Table.Limits.{most_changes, AreWithin}
-use Rattle.table_history.specs.Object.{changes_of, AllFull}
-use Rattle.table_history.specs.Law.{head_of}
-use Rattle.table_history.specs.Content.{IsTable}
-use Rattle.table_history.specs.Rule.{Knows}
+use Rattle.table_publish.specs.Object.{changes_of, AllFull}
+use Rattle.table_publish.specs.Law.{head_of}
+use Rattle.table_publish.specs.Content.{IsTable}
+use Rattle.table_publish.specs.Rule.{Knows}
 use Rattle.table_publish.specs.declared.board.Board.TheInside.{Inside}
 use Rattle.table_publish.specs.declared.seat.Seat.TheInside as seats
 

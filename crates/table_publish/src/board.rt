@@ -3,12 +3,16 @@ ghost use Rattle.std.specs.Prelude.{◌≡◌, ◌+◌, ◌-◌, ◌<◌, ◌≤
 ghost use Rattle.left_right.specs.Sides.{view as place_view};
 ghost use Rattle.br_model.specs.Table.Limits.{AreWithin, most_changes};
 ghost use Rattle.table_publish.specs.Board.{all_of, newcomer};
-ghost use Rattle.table_history.specs.Content.{after, IsTable};
-ghost use Rattle.table_history.specs.Law.{head_of};
-ghost use Rattle.table_history.specs.Object.{Begins, IsPublished, first_object, published};
-ghost use Rattle.table_history.specs.Rule.{Knows};
+ghost use Rattle.table_publish.specs.Content.{after, IsTable};
+ghost use Rattle.table_publish.specs.Law.{head_of};
+ghost use Rattle.table_publish.specs.Object.{Begins, IsPublished, first_object, published};
+ghost use Rattle.table_publish.specs.Rule.{Knows};
 
 use crate::NoMemory;
+use crate::content::{Operation, Published};
+use crate::law::{Add, Batch, Count, Law, Nothing, Shown};
+use crate::packed::Packed;
+use crate::rule::{Naming, Note, See, TableWriter};
 use crate::seat::Seat;
 use br_model::change::Change;
 use br_model::domains::Domains;
@@ -20,10 +24,6 @@ use std::alloc::{AllocError, Global};
 use std::marker::Model;
 use std::mem;
 use std::sync::Wait;
-use table_history::content::{Operation, Published};
-use table_history::law::{Add, Batch, Count, Law, Nothing, Shown};
-use table_history::packed::Packed;
-use table_history::rule::{Naming, Note, See, TableWriter};
 
 /// The one who publishes. Contracts see which board it is, its published object and its pending changes. It isn't `Drop`: end it by
 /// `end`.
@@ -40,7 +40,7 @@ pub struct Board {
 
 impl Model for Board {
     ghost use Rattle.table_publish.specs.Board.{Shelf};
-    ghost use Rattle.table_history.specs.Object.{object_of};
+    ghost use Rattle.table_publish.specs.Object.{object_of};
     ghost use Rattle.table_publish.specs.Shelved.{IsShelved};
 
     ghost Value = { Shelf };

@@ -5,7 +5,7 @@ use std::marker::Brand;
 /// of a program picks it. A name does nothing.
 pub trait Name {
     ghost use Rattle.std.specs.Prelude.{ℕ};
-    ghost use Rattle.table_history.specs.Object.{Whose};
+    ghost use Rattle.table_publish.specs.Object.{Whose};
 
     ghost board: { Whose };
 

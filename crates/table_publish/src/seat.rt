@@ -3,15 +3,15 @@ ghost use Rattle.std.specs.Prelude.{◌≡◌, length, IfSome, IfNone, None};
 ghost use Rattle.br_model.specs.Table.Table.{table};
 ghost use Rattle.forward_rules.specs.Decided.{Decides};
 ghost use Rattle.table_publish.specs.Board.{Rises};
-ghost use Rattle.table_history.specs.Object.{Begins, IsPublished};
+ghost use Rattle.table_publish.specs.Object.{Begins, IsPublished};
 
+use crate::law::Shown;
+use crate::rule::{See, TableReader};
 use br_model::domains::Domains;
 use br_model::frame::{Head, McastMsg};
 use br_model::numbers::Port;
 use forward_rules::Verdict;
 use std::marker::Model;
-use table_history::law::Shown;
-use table_history::rule::{See, TableReader};
 
 /// What a lookup answers: the decision, and by how many changes.
 #[derive(Clone, Copy, PartialEq, Eq, Debug)]
@@ -32,7 +32,7 @@ pub struct Seat {
 }
 
 impl Model for Seat {
-    ghost use Rattle.table_history.specs.Object.{object_of};
+    ghost use Rattle.table_publish.specs.Object.{object_of};
     ghost use Rattle.table_publish.specs.Board.{Known};
     ghost use Rattle.table_publish.specs.Shelved.{IsSeated};
 

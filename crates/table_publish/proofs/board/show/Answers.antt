@@ -1,8 +1,8 @@
 use Rattle.std.proofs.Common.{◌≡◌, List, [], ◌∷◌, ◌++◌, drop, fold, sym, ap, ◌∙◌, subst}
-use Rattle.table_history.specs.Content.{after, IsTable}
-use Rattle.table_history.specs.declared.content.Published.{Published}
-use Rattle.table_history.specs.declared.content.Operation.{Operation}
-use Rattle.table_history.proofs.Steps.{sees}
+use Rattle.table_publish.specs.Content.{after, IsTable}
+use Rattle.table_publish.specs.declared.content.Published.{Published}
+use Rattle.table_publish.specs.declared.content.Operation.{Operation}
+use Rattle.table_publish.proofs.Steps.{sees}
 use Rattle.table_publish.proofs.board.show.Goals as goal
 
 pub publish_as-writer-requires : goal.publish_as-writer-requires

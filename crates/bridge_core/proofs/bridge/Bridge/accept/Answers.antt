@@ -1,7 +1,7 @@
 use Rattle.std.proofs.Common.{List, refl, subst}
 use Rattle.br_model.specs.declared.change.Change.{Change}
 use Rattle.bridge_core.specs.Answers.{Makes}
-use Rattle.bridge_plans.specs.Plans.{prepared}
+use Rattle.bridge_state.specs.Plans.{prepared}
 use Rattle.bridge_core.proofs.Accepting.{quiet_reacts}
 use Rattle.bridge_core.proofs.bridge.Bridge.accept.Goals as goal
 

@@ -8,13 +8,13 @@ use Rattle.br_model.specs.Table.Limits.{all_fit, most_changes}
 use Rattle.br_model.specs.Control.Snooping.{fastleave, said}
 use Rattle.br_model.specs.Table.Table.{Table, table, start, apply}
 use Rattle.br_model.specs.Forward.Targets.{has_flag}
-use Rattle.bridge_plans.specs.declared.plan.Plan.{Plan}
-use Rattle.bridge_plans.specs.declared.snooping.Speaker.{Speaker}
-use Rattle.bridge_plans.specs.Hearing.{Hears}
+use Rattle.bridge_state.specs.declared.plan.Plan.{Plan}
+use Rattle.bridge_state.specs.declared.snooping.Speaker.{Speaker}
+use Rattle.bridge_state.specs.Hearing.{Hears}
 use Rattle.bridge_core.specs.Kept.{Controlled}
-use Rattle.bridge_plans.specs.Plans.{renewed_at}
-use Rattle.bridge_plans.specs.Standing.{clocked, course_of, table_of, control_of}
-use Rattle.bridge_plans.proofs.Fitting.{grown}
+use Rattle.bridge_state.specs.Plans.{renewed_at}
+use Rattle.bridge_state.specs.Standing.{clocked, course_of, table_of, control_of}
+use Rattle.bridge_state.proofs.Fitting.{grown}
 use Rattle.bridge_core.proofs.Saying.{hears, heard_now, learned, leaves_so, reacts, refused, tied_as}
 use Rattle.bridge_core.proofs.bridge.Bridge.accept_said.Goals.{In_ok-has_room_for, After-follow, After-drop-plan-2}
 use Rattle.bridge_core.proofs.bridge.Bridge.accept_said.Goals as goal

@@ -13,16 +13,16 @@ use Rattle.br_model.specs.Tree.Sending.{Acted}
 use Rattle.br_model.specs.Tree.Step.{tree_step, sent}
 use Rattle.br_model.specs.Tree.Tree.{Tree}
 use Rattle.stp_core.specs.Settling.{out_of}
-use Rattle.bridge_plans.specs.declared.plan.Plan.{Plan}
-use Rattle.bridge_plans.specs.Following.{acted_by, state_change}
+use Rattle.bridge_state.specs.declared.plan.Plan.{Plan}
+use Rattle.bridge_state.specs.Following.{acted_by, state_change}
 use Rattle.bridge_core.specs.Kept.{Controlled}
-use Rattle.bridge_plans.specs.Plans.{prepared, renewed_at}
-use Rattle.bridge_plans.specs.Standing.{clocked, control_of, table_of}
+use Rattle.bridge_state.specs.Plans.{prepared, renewed_at}
+use Rattle.bridge_state.specs.Standing.{clocked, control_of, table_of}
 use Rattle.bridge_core.proofs.Accepting.{all_changes, all_changes_fit, told_reacts}
-use Rattle.bridge_plans.proofs.Fitting.{grown}
-use Rattle.bridge_plans.proofs.Following.{all_beside, renewed_beside, with_tree}
-use Rattle.bridge_plans.proofs.Hearing.{behind}
-use Rattle.bridge_plans.proofs.Reactions.{same_clock, renewed_clock}
+use Rattle.bridge_state.proofs.Fitting.{grown}
+use Rattle.bridge_state.proofs.Following.{all_beside, renewed_beside, with_tree}
+use Rattle.bridge_state.proofs.Hearing.{behind}
+use Rattle.bridge_state.proofs.Reactions.{same_clock, renewed_clock}
 use Rattle.bridge_core.proofs.bridge.Bridge.accept_told.Goals.{After-deref-4}
 use Rattle.bridge_core.proofs.bridge.Bridge.accept_told.Goals as goal
 

@@ -3,13 +3,13 @@ use Rattle.br_model.specs.Control.Control.{renewed}
 use Rattle.br_model.specs.Control.Learning.{Address}
 use Rattle.br_model.specs.Table.Limits.{most_changes}
 use Rattle.br_model.specs.Table.Table.{Table, table}
-use Rattle.bridge_plans.specs.declared.learning.Lesson.TheVariants.{Known, Renewed, News}
+use Rattle.bridge_state.specs.declared.learning.Lesson.TheVariants.{Known, Renewed, News}
 use Rattle.bridge_core.specs.Answers.{Makes}
 use Rattle.bridge_core.specs.Kept.{Controlled}
-use Rattle.bridge_plans.specs.Lessons.{lesson_of}
-use Rattle.bridge_plans.specs.Standing.{control_of}
+use Rattle.bridge_state.specs.Lessons.{lesson_of}
+use Rattle.bridge_state.specs.Standing.{control_of}
 use Rattle.bridge_core.proofs.Accepting.{carried_one, carried_still}
-use Rattle.bridge_plans.proofs.Reactions.{learns_known, learns_renewed, learns_news, fits_news, put_of}
+use Rattle.bridge_state.proofs.Reactions.{learns_known, learns_renewed, learns_news, fits_news, put_of}
 use Rattle.bridge_core.proofs.bridge.Bridge.learn_at.Goals as goal
 
 pub returns-in-Known : goal.returns-in-Known

@@ -6,9 +6,9 @@ use Rattle.br_model.specs.Control.Control.{Control, keeps_up}
 use Rattle.br_model.specs.Table.Limits.{all_fit}
 use Rattle.br_model.specs.Table.Table.{Table, table, start, apply}
 use Rattle.bridge_core.specs.Kept.{Controlled}
-use Rattle.bridge_plans.specs.Standing.{table_of}
-use Rattle.bridge_plans.proofs.Fitting.{fit_behind, fits_alone}
-use Rattle.bridge_plans.proofs.Reactions.{same_clock}
+use Rattle.bridge_state.specs.Standing.{table_of}
+use Rattle.bridge_state.proofs.Fitting.{fit_behind, fits_alone}
+use Rattle.bridge_state.proofs.Reactions.{same_clock}
 use Rattle.bridge_core.proofs.bridge.Bridge.make_change.Goals as goal
 
 pub apply-requires-clause-fits : goal.apply-requires-clause-fits

@@ -8,12 +8,12 @@ use Rattle.br_model.specs.Table.Limits.{all_fit}
 use Rattle.br_model.specs.Table.Table.{Table, table, apply}
 use Rattle.bridge_core.specs.Kept.{Controlled}
 use Rattle.br_model.specs.Data.Maps.{pair_cmp, get}
-use Rattle.bridge_plans.specs.Plans.{renewed_at}
+use Rattle.bridge_state.specs.Plans.{renewed_at}
 use Rattle.br_model.specs.Control.Ends.{Ends}
 use Rattle.br_model.specs.Theorems.EndsTied.{IsTied}
-use Rattle.bridge_plans.specs.Standing.{clocked, table_of}
-use Rattle.bridge_plans.proofs.Fitting.{grown}
-use Rattle.bridge_plans.proofs.Reactions.{same_clock, renewed_clock, renewed_ends}
+use Rattle.bridge_state.specs.Standing.{clocked, table_of}
+use Rattle.bridge_state.proofs.Fitting.{grown}
+use Rattle.bridge_state.proofs.Reactions.{same_clock, renewed_clock, renewed_ends}
 use Rattle.bridge_core.proofs.bridge.Bridge.make_changes.Goals as goal
 
 pub prepare-requires : goal.prepare-requires

@@ -8,8 +8,8 @@ use Rattle.br_model.specs.Control.Reaction.{learns_of}
 use Rattle.br_model.specs.Table.Setup.{Setup}
 use Rattle.br_model.specs.Table.Table.{Table, table}
 use Rattle.bridge_core.specs.Kept.{Controlled}
-use Rattle.bridge_plans.specs.Plans.{Plans}
-use Rattle.bridge_plans.specs.Standing.{table_of, control_of}
+use Rattle.bridge_state.specs.Plans.{Plans}
+use Rattle.bridge_state.specs.Standing.{table_of, control_of}
 use Rattle.bridge_core.proofs.bridge.Bridge.plan_taught.Goals as goal
 
 pub returns-clause-plans : goal.returns-clause-plans

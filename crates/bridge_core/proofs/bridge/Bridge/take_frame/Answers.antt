@@ -4,10 +4,10 @@ use Rattle.br_model.specs.Control.Control.{Control}
 use Rattle.br_model.specs.Control.Course.{Course}
 use Rattle.br_model.specs.Control.TreeReaction.{heard}
 use Rattle.br_model.specs.Table.Table.{Table, table}
-use Rattle.bridge_plans.specs.declared.state.Clock.{Clock}
+use Rattle.bridge_state.specs.declared.state.Clock.{Clock}
 use Rattle.bridge_core.specs.Answers.{CarriesOut, standing}
 use Rattle.bridge_core.specs.Kept.{Controlled}
-use Rattle.bridge_plans.specs.Standing.{clocked}
+use Rattle.bridge_state.specs.Standing.{clocked}
 use Rattle.bridge_core.proofs.Seeing.{sees-told, sound-alone, tells_alone}
 use Rattle.bridge_core.proofs.bridge.Bridge.take_frame.Goals as goal
 

@@ -13,7 +13,7 @@ use Rattle.br_model.specs.Table.Table.{Table, table}
 use Rattle.bridge_core.specs.Answers.{CarriesOut, comes_to, standing}
 use Rattle.bridge_core.specs.Kept.{Controlled}
 use Rattle.bridge_core.proofs.Accepting.{carried_one, carried_still}
-use Rattle.bridge_plans.proofs.Reactions.{fit_command}
+use Rattle.bridge_state.proofs.Reactions.{fit_command}
 use Rattle.bridge_core.proofs.bridge.Bridge.take_link.Goals as goal
 
 -- what the command comes to, by its answer

@@ -3,9 +3,9 @@ use Rattle.br_model.specs.Control.Learning.{Address}
 use Rattle.br_model.specs.Table.Limits.{most_changes}
 use Rattle.br_model.specs.Table.Table.{Table, table}
 use Rattle.bridge_core.specs.Kept.{Controlled}
-use Rattle.bridge_plans.specs.Lessons.{is_taken}
+use Rattle.bridge_state.specs.Lessons.{is_taken}
 use Rattle.bridge_core.proofs.Accepting.{carried_one, carried_still}
-use Rattle.bridge_plans.proofs.Reactions.{report_of, fits_report, report_taken, report_left}
+use Rattle.bridge_state.proofs.Reactions.{report_of, fits_report, report_taken, report_left}
 use Rattle.bridge_core.proofs.bridge.Bridge.take_report.Goals as goal
 
 pub returns-then-not-is_taken : goal.returns-then-not-is_taken

@@ -6,11 +6,11 @@ use Rattle.br_model.specs.Table.Table.{Table, table, with_addresses}
 use Rattle.br_model.specs.Wire.Messages.{RecordsStand}
 use Rattle.br_model.proofs.Wire.RecordsFit.{message-stands}
 use Rattle.bridge_core.specs.Answers.{carried_out, standing}
-use Rattle.bridge_plans.specs.Hearing.{says}
+use Rattle.bridge_state.specs.Hearing.{says}
 use Rattle.bridge_core.specs.Kept.{Controlled}
 use Rattle.bridge_core.proofs.Accepting.{carried_as}
 use Rattle.bridge_core.proofs.Seeing.{came_to, sees-said}
-use Rattle.bridge_plans.proofs.Speaking.{taught-ports}
+use Rattle.bridge_state.proofs.Speaking.{taught-ports}
 use Rattle.bridge_core.proofs.bridge.Bridge.take_untold.Goals as goal
 
 pub accept_said-requires-clause-records : goal.accept_said-requires-clause-records

@@ -7,9 +7,9 @@ use Rattle.br_model.specs.Theorems.TreeLaws.{knows_states}
 use Rattle.br_model.specs.Tree.Step.{tree_step, moved, sent}
 use Rattle.stp_core.specs.declared.tree.TreeOut.{TreeOut}
 use Rattle.bridge_core.specs.Answers.{Makes}
-use Rattle.bridge_plans.specs.Following.{state_change}
+use Rattle.bridge_state.specs.Following.{state_change}
 use Rattle.bridge_core.specs.Kept.{Controlled}
-use Rattle.bridge_plans.specs.Plans.{prepared}
+use Rattle.bridge_state.specs.Plans.{prepared}
 use Rattle.bridge_core.proofs.Accepting.{all_changes_fit, told_reacts, told_refused}
 use Rattle.bridge_core.proofs.bridge.Bridge.try_told.Goals as goal
 

@@ -1,6 +1,6 @@
 use Rattle.std.proofs.Common.{List, length, string_bytes, ap, ℕ}
 use Rattle.std.proofs.lemmas.Str.{IsUtf8-string_bytes}
-use Rattle.run_text.proofs.Cutting.{torn}
+use Rattle.run_status.proofs.Cutting.{torn}
 use Rattle.scenario_runner.proofs.session.Session.step.Goals as goal
 
 pub cut_if_torn-requires : goal.cut_if_torn-requires

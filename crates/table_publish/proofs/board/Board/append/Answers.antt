@@ -1,8 +1,8 @@
 use Rattle.std.proofs.Common.{◌≡◌, ◌+◌, ◌≤◌, List, ◌++◌, length, sym, ap, ◌∙◌, subst, append_assoc, length-append, arith}
 use Rattle.br_model.specs.declared.change.Change.{Change}
 use Rattle.br_model.specs.Table.Limits.{AreWithin, most_changes}
-use Rattle.table_history.specs.Object.{changes_of, object_of}
-use Rattle.table_history.specs.Packed.{Listed}
+use Rattle.table_publish.specs.Object.{changes_of, object_of}
+use Rattle.table_publish.specs.Packed.{Listed}
 use Rattle.table_publish.specs.Board.{Shelf, all_of}
 use Rattle.table_publish.proofs.board.Board.append.Goals as goal
 

@@ -2,10 +2,10 @@ use Rattle.std.proofs.Common.{◌≡◌, IsTrue, List, [], ◌++◌, length, ref
 use Rattle.br_model.specs.declared.change.Change.{Change}
 use Rattle.br_model.specs.Table.Limits.{AreWithin}
 use Rattle.br_model.proofs.Table.Within.{within_of}
-use Rattle.table_history.specs.Object.{changes_of}
-use Rattle.table_history.specs.Content.{IsTable}
-use Rattle.table_history.specs.Packed.{Listed}
-use Rattle.table_history.proofs.Steps.{begins}
+use Rattle.table_publish.specs.Object.{changes_of}
+use Rattle.table_publish.specs.Content.{IsTable}
+use Rattle.table_publish.specs.Packed.{Listed}
+use Rattle.table_publish.proofs.Steps.{begins}
 use Rattle.table_publish.proofs.board.Board.make.Goals as goal
 
 none_within : (pending : List Change) → pending ≡ [] → AreWithin pending

@@ -3,16 +3,16 @@ use Rattle.std.proofs.lemmas.Grind.{common_steps}
 use Rattle.std.proofs.lemmas.List.{append-nil}
 use Rattle.br_model.specs.declared.change.Change.{Change}
 use Rattle.br_model.specs.Table.Limits.{AreWithin}
-use Rattle.table_history.specs.Object.{Object, IsPublished, changes_of, object_of, published, AllFull}
-use Rattle.table_history.specs.Law.{head_of}
-use Rattle.table_history.specs.Content.{after, IsTable}
-use Rattle.table_history.specs.Rule.{book_of}
-use Rattle.table_history.specs.Packed.{Listed}
+use Rattle.table_publish.specs.Object.{Object, IsPublished, changes_of, object_of, published, AllFull}
+use Rattle.table_publish.specs.Law.{head_of}
+use Rattle.table_publish.specs.Content.{after, IsTable}
+use Rattle.table_publish.specs.Rule.{book_of}
+use Rattle.table_publish.specs.Packed.{Listed}
 use Rattle.table_publish.specs.Board.{Shelf}
-use Rattle.table_history.specs.declared.content.Published.{Published}
-use Rattle.table_history.specs.declared.content.Operation.{Operation}
-use Rattle.table_history.proofs.Objects.{changes_of-push, object_of-push, full_push, published_of}
-use Rattle.table_history.proofs.Publishing.{table_after, published_some}
+use Rattle.table_publish.specs.declared.content.Published.{Published}
+use Rattle.table_publish.specs.declared.content.Operation.{Operation}
+use Rattle.table_publish.proofs.Objects.{changes_of-push, object_of-push, full_push, published_of}
+use Rattle.table_publish.proofs.Publishing.{table_after, published_some}
 use Rattle.table_publish.proofs.Shelves.{shelved_full, shelved_published, shelved_batches}
 use Rattle.table_publish.proofs.board.Board.publish.Goals as goal
 

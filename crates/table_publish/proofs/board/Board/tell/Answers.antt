@@ -2,8 +2,8 @@ use Rattle.std.proofs.Common.{◌≤◌, List, length, sym, ap, subst, arith}
 use Rattle.br_model.specs.declared.change.Change.{Change}
 use mathlib.Core.List.{IsPrefix}
 use Rattle.table_publish.specs.Board.{Shelf, Known}
-use Rattle.table_history.specs.Object.{Object, Begins, IsPublished, object_of, AllFull}
-use Rattle.table_history.proofs.Objects.{prefix_shorter, begins_of, begins_self, published_of}
+use Rattle.table_publish.specs.Object.{Object, Begins, IsPublished, object_of, AllFull}
+use Rattle.table_publish.proofs.Objects.{prefix_shorter, begins_of, begins_self, published_of}
 use Rattle.table_publish.proofs.board.Board.tell.Goals as goal
 
 pub returns-then-s-self-clause-told : goal.returns-then-s-self-clause-told

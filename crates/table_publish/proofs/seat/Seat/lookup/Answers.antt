@@ -1,11 +1,11 @@
 use Rattle.std.proofs.Common.{◌≤◌, List, length, sym, ap, ◌∙◌, subst, arith}
 use Rattle.br_model.specs.declared.change.Change.{Change}
 use mathlib.Core.List.{IsPrefix}
-use Rattle.table_history.specs.Object.{Object, Begins, IsPublished, object_of}
-use Rattle.table_history.specs.Content.{IsTable}
+use Rattle.table_publish.specs.Object.{Object, Begins, IsPublished, object_of}
+use Rattle.table_publish.specs.Content.{IsTable}
 use Rattle.table_publish.specs.Board.{Known}
-use Rattle.table_history.proofs.Objects.{prefix_shorter, begins_of, begins_self, published_of}
-use Rattle.table_history.proofs.Steps.{looks}
+use Rattle.table_publish.proofs.Objects.{prefix_shorter, begins_of, begins_self, published_of}
+use Rattle.table_publish.proofs.Steps.{looks}
 use Rattle.table_publish.proofs.seat.Seat.lookup.Goals as goal
 
 pub enter_as-requires : goal.enter_as-requires

@@ -1,4 +1,4 @@
-use Rattle.table_history.proofs.Objects.{published_of}
+use Rattle.table_publish.proofs.Objects.{published_of}
 use Rattle.table_publish.proofs.seat.Seat.miss.Goals as goal
 
 pub returns-clause-published : goal.returns-clause-published

@@ -1,6 +1,0 @@
-use Rattle.std.proofs.Common.{◌≡◌, fold, take}
-use Rattle.table_history.specs.Content.{taken}
-use Rattle.table_history.proofs.content.PublishedAbsorbOperation.absorb_first.Given as goal
-
-abbrev pub invariant-loop-i : goal.invariant-loop-i
-invariant-loop-i l = l.self ≡ record l.initial.self { tables = fold taken l.initial.self.tables (take l.i l.operation.changes.list) }
