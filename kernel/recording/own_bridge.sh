@@ -1,6 +1,6 @@
 #!/bin/bash
 # A bridge of four veth pairs: VLANs, stations that move, static entries, groups, isolated ports, and a link that goes down. Its frames are
-# those of mausezahn. Where /out is, a second record is made of the bridge in use, by its name.
+# those of mausezahn. Where /out is, two more records are made of the bridge in use, by its name, one of headers alone.
 send() { # from, source, destination, tag or "", payload
 	mausezahn "$1" -c 1 "$3 $2 ${4:+81:00 $4 }88:b5 $5" -q
 }
@@ -41,7 +41,9 @@ sleep 12
 if [ -d /out ]; then
 	python3 /tools/record br0 > /out/in_use.pcapng 2> /out/in_use.recorder &
 	recorder=$!
-	until grep -q . /out/in_use.recorder; do sleep 0.1; done
+	python3 /tools/record --headers br0 > /out/headers.pcapng 2> /out/headers.recorder &
+	header_recorder=$!
+	until grep -q . /out/in_use.recorder && grep -q . /out/headers.recorder; do sleep 0.1; done
 fi
 for to in 02:00:00:00:00:0a 02:00:00:00:00:0b 02:00:00:00:00:0c 02:00:00:00:00:0e ff:ff:ff:ff:ff:ff 01:00:5e:01:01:01 01:80:c2:00:00:0e; do
 	for from in a b c d; do
@@ -91,8 +93,8 @@ sleep 14
 send a0 02:00:00:00:01:0a 02:00:00:00:01:0c "" 0b
 sleep 2
 if [ -d /out ]; then
-	kill -INT $recorder
-	wait $recorder
+	kill -INT $recorder $header_recorder
+	wait $recorder $header_recorder
 fi
 ip link del br0
 for x in a b c d; do ip link del ${x}0; done
