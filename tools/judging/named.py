@@ -258,8 +258,8 @@ class View:
         self.source_entry, self.entry = bridge.fdb.get(self.source), bridge.fdb.get(self.key)
         self.is_locked = self.source in bridge.locked
         self.entry_number, self.entry_place = self.place_of_entry(case) if self.entry else (None, None)
-        learned = bool(self.entry) and self.entry[1] == "learned"
-        self.is_old, self.is_late = learned and is_due(case, self.key, time), learned and is_late(case, self.key, time)
+        self.is_old = bool(self.entry) and self.entry[1] == "learned" and is_due(case, self.key, time)
+        self.is_late = self.is_old and is_late(case, self.key, time)
         self.is_group, self.own_since = packets.is_group(data), case.own_querier_since
         self.group, self.members, self.has_sources, self.due, self.unreachable, self.wanted = b"", {}, False, set(), set(), set()
         self.heard, self.is_payload = None, True
