@@ -30,12 +30,11 @@ class Frame:
     """A frame that entered, of which `data` are the bytes that decide something. `out`: (number, bytes) of what left; `expected`: the named
     difference that decides it by itself, with the numbers of the ports that the kernel uses then, or None; `item`: its place in the
     scenario; `view`: what the kernel's tables said; `settings`: the configuration of its port."""
-    __slots__ = ("time", "order", "number", "data", "out", "last", "expected", "item", "view", "kept_tag", "settings", "length")
+    __slots__ = ("time", "number", "data", "out", "expected", "item", "view", "kept_tag", "settings", "length")
 
-    def __init__(self, time, order, number, data, length):
-        self.time, self.order, self.number, self.data, self.length = time, order, number, data, length
-        self.out, self.last, self.expected, self.item, self.view, self.kept_tag = [], order, None, None, None, b""
-        self.settings = ""
+    def __init__(self, time, number, data, length):
+        self.time, self.number, self.data, self.length = time, number, data, length
+        self.out, self.expected, self.item, self.view, self.kept_tag, self.settings = [], None, None, None, b"", ""
 
 
 class Cut:
@@ -492,29 +491,30 @@ class Case:
             return 0
         return self.model.numbers.get(device) or self.model.number(self.bridge.ports[device])
 
-    def frame(self, packet, order):
+    def frame(self, packet):
         """A frame at the bridge's device or a port's. What the bridge's device sends enters the bridge, and what it gets left it."""
         is_host, time = packet.device == self.bridge.index, packet.time
         enters = packet.left == is_host
         if self.lacks or self.window is None:
             self.uncompared["before the state at the start was whole"] += 1
             if enters:
-                self.remember_frame(Frame(time, order, -1, b"", packet.length), packet)
+                self.remember_frame(Frame(time, -1, b"", packet.length), packet)
             return
-        self.settle(time)
+        if self.closing:
+            self.settle(time)
         self.quiet(time)
         if enters:
             self.pass_bounds(time)
-            self.enter(packet, order, HOST if is_host else self.number_of(packet.device))
+            self.enter(packet, HOST if is_host else self.number_of(packet.device))
         else:
-            self.leave(packet, order)
+            self.leave(packet)
 
-    def enter(self, packet, order, number):
+    def enter(self, packet, number):
         time, device = packet.time, packet.device
         self.own_queries(time)
         data = packets.deciding(packet.data, packet.length)
         why = self.unfit(packet, number)
-        frame = Frame(time, order, number, data or packet.data[:packets.KEPT], packet.length)
+        frame = Frame(time, number, data or packet.data[:packets.KEPT], packet.length)
         self.remember_frame(frame, packet)
         if why or data is None:
             self.uncompared[why or "a message, or to a group, and shortened"] += 1
@@ -561,7 +561,8 @@ class Case:
         if mtu and packet.length > mtu + packets.HEADER:
             self.joined[packet.data[:12]] = packet.time
             return packets.joined_words(port.name if port else self.bridge.name)
-        return named.unfit(self.bridge, packet.data, packet.length, number == HOST)
+        why = self.cache("unfit", lambda: (named.unfit_bridge(self.bridge),))[0]
+        return why or named.unfit(self.bridge, packet.data, packet.length, number == HOST)
 
     def note_message(self, time, vid, device, message):
         """When members reported, and left."""
@@ -588,14 +589,13 @@ class Case:
             if not self.recent[old]:
                 del self.recent[old]
 
-    def leave(self, packet, order):
+    def leave(self, packet):
         number = self.number_of(packet.device)
         key, rest = packets.parted(packet.data, packet.length)
         for frame, its_rest in reversed(self.recent.get(key, ())):
             if (rest == its_rest or None in (rest, its_rest)) and self.may_leave(frame, packet, number):
                 kept = packets.bare(frame.data)
                 frame.out.append((number, packets.head(packet.data, min(packets.KEPT, len(kept))) + kept[packets.KEPT:]))
-                frame.last = order
                 return
         self.stranger(packet.time, number, packet.device, packet.data)
 

@@ -87,12 +87,12 @@ def run(case, found, changes):
     changes = sorted(changes, key=lambda each: each[0])
     if not any(words[:2] == ["port", "up"] for _, words in changes):
         changes[:0] = [(0, ["port", "up", port.name]) for port in case.bridge.ports.values()]
-    for order, packet in enumerate(found):
+    for packet in found:
         while changes and changes[0][0] <= packet.time:
             moment, words = changes.pop(0)
             Commands(case.bridge).change(words)
             case.changed(max(moment, case.born))
-        case.frame(packet, order)
+        case.frame(packet)
 
 
 def read_commands(path, names):

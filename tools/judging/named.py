@@ -39,19 +39,26 @@ def has_own_times(bridge):
     return any(bridge.options.get(name, usual) != usual for name, usual in DEFAULT_TIMES.items())
 
 
+def unfit_bridge(bridge):
+    """Why no frame of a bridge is judged, or None."""
+    if bridge.options.get("vlan_protocol", 0x8100) != 0x8100:
+        return "the bridge's VLANs are of 802.1ad"
+    if bridge.has_option(kernel.MST):
+        return "the bridge has a spanning tree for each VLAN (mst_enable)"
+    return None
+
+
 def unfit(bridge, data, length, by_host):
     """Why a frame isn't judged, or None."""
     if length > packets.LONGEST:
         return "longer than %d bytes" % packets.LONGEST
     if len(data) < packets.SHORTEST:
         return "shorter than %d bytes" % packets.SHORTEST
-    if bridge.options.get("vlan_protocol", 0x8100) != 0x8100:
-        return "the bridge's VLANs are of 802.1ad"
-    if bridge.has_option(kernel.MST):
-        return "the bridge has a spanning tree for each VLAN (mst_enable)"
-    if not bridge.is_aware() and packets.bare(data)[12:14] == packets.TAG and packets.tag_of(data):
+    if bridge.is_aware() or not packets.tag_of(data):
+        return None
+    if packets.bare(data)[12:14] == packets.TAG:
         return "two tags, and the bridge doesn't look at them"
-    if not bridge.is_aware() and by_host and packets.tag_of(data) and packets.is_group(data):
+    if by_host and packets.is_group(data):
         return "to a group, with a tag of the host's, and the bridge doesn't look at it"
     return None
 
