@@ -85,12 +85,14 @@ class Bridge:
         if peer is source:
             return
         port = self.known.get((peer.vid, peer.mac))
-        self.send(now, source, peer.mac, rest, [each for each in self.all_but(source) if each != BRIDGE] if port is None else [port] if port != source.port else [])
+        leaves = [each for each in self.all_but(source) if each != BRIDGE] if port is None else {port} - {source.port}
+        self.send(now, source, peer.mac, rest, leaves)
 
     def to_group(self, now, source):
         group = "239.1.1.%d" % self.draw.randrange(GROUPS)
         sender = frames.Sender(source.mac.hex(), "10.0.0.9", "fe80::9")
-        datagram = bytes.fromhex(frames.v4(group, sender, b"\x10\0\x20\0" + (FULL - 20).to_bytes(2, "big") + b"\0\0" + self.payload[:FULL - 28], 17, None))
+        body = b"\x10\0\x20\0" + (FULL - 20).to_bytes(2, "big") + b"\0\0" + self.payload[:FULL - 28]
+        datagram = bytes.fromhex(frames.v4(group, sender, body, 17, None))
         members = self.members.get((source.vid, group), set()) | {self.router}
         able = set(self.all_but(source)) - {BRIDGE}
         self.send(now, source, datagram[:6], datagram[12:], sorted(members & able))
@@ -197,7 +199,8 @@ def main(words):
     judge.stdin.close()
     status = judge.wait()
     used = resource.getrusage(resource.RUSAGE_CHILDREN)
-    print("%.0f s, %.0f s of the processor, at most %.0f MB in one process" % (time.monotonic() - began, used.ru_utime + used.ru_stime, used.ru_maxrss / 1024))
+    print("%.0f s by the clock, %.0f s of the processor, at most %.0f MB in one process" % (
+        time.monotonic() - began, used.ru_utime + used.ru_stime, used.ru_maxrss / 1024))
     return status
 
 

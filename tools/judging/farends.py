@@ -189,7 +189,8 @@ class Commands:
     def vlan(self, words):
         """vlan add|del vid V dev DEV [pvid] [untagged]"""
         flags = words[6:]
-        if one_of(words[1], {"add": "", "del": "x"}) and flags or flags not in ([], ["pvid"], ["untagged"], ["pvid", "untagged"], ["untagged", "pvid"]):
+        known = one_of(words[1], {"add": {"pvid", "untagged"}, "del": set()})
+        if set(flags) - known or len(set(flags)) < len(flags):
             raise Broken("unknown words: %s" % " ".join(flags))
         vid, name = words_like(words[2:6], "vid _ dev _")
         port = self.port_named(name) if name != "host" else None

@@ -43,7 +43,8 @@ class Record:
         except (EOFError, zlib.error, gzip.BadGzipFile) as fault:
             self.faults.append("the record is broken off: its compression is: %s" % fault)
         if self.foreign:
-            self.faults.append("%s: tools/record didn't write this; its frames lack their direction or their device" % ", ".join(sorted(self.foreign)))
+            names = ", ".join(sorted(self.foreign))
+            self.faults.append("%s: tools/record didn't write this; its frames lack their direction or their device" % names)
 
 
 def read(path):
