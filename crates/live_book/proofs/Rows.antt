@@ -1,5 +1,6 @@
 -- What rows tell is what their lines tell.
 use Rattle.std.proofs.Common.{◌≡◌, ℕ, ◌+◌, ◌<◌, ◌≤◌, ◌&&◌, Bool, true, false, List, [], ◌∷◌, length, drop, get_or, refl, sym, ap, ◌∙◌}
+use Rattle.std.proofs.Math.Bool.{and-true}
 use Rattle.std.proofs.Math.ListN.{drop_of_length-le}
 use Rattle.std.specs.List.{fold, list_all}
 use Rattle.std.proofs.lemmas.List.Folds.{list_all-append}
@@ -7,16 +8,27 @@ use Rattle.std.proofs.lemmas.List.Sums.{fold-append}
 use Rattle.lemmas.proofs.Lists.{drop_item}
 use Rattle.br_model.specs.declared.transcript.Line.{Line}
 use Rattle.transcript_lines.specs.declared.row.Row.{Row}
-use Rattle.transcript_lines.specs.Rows.{expand, expand_row, sent_lines}
-use Rattle.live_book.specs.Reading.{is_published, refused_after}
+use Rattle.transcript_lines.specs.declared.row.Row.TheVariants.{One, Sent, Ctl}
+use Rattle.transcript_lines.specs.Rows.{at, expand, expand_row, row_answer, sent_lines}
+use Rattle.live_book.specs.Reading.{is_end_published, is_published, refused_after, refused_by}
 
-pub sent_published : (may : ℕ → Bool) (id : ℕ) (ports untagged plain tagged : List ℕ) → list_all (is_published may) (sent_lines id ports untagged plain tagged) ≡ true
+sent_published : (may : ℕ → Bool) (id : ℕ) (ports untagged plain tagged : List ℕ) → list_all (is_published may) (sent_lines id ports untagged plain tagged) ≡ true
 sent_published may id [] untagged plain tagged = refl
 sent_published may id (port ∷ ports) untagged plain tagged = sent_published may id ports untagged plain tagged
 
-pub sent_after : (is_report : ℕ → Bool) (before : Bool) (id : ℕ) (ports untagged plain tagged : List ℕ) → fold (refused_after is_report) before (sent_lines id ports untagged plain tagged) ≡ before
+pub row_published : (may : ℕ → Bool) (arena : List ℕ) (row : Row) → list_all (is_published may) (expand_row arena row) ≡ is_end_published may (row_answer row)
+row_published may arena (One line) = and-true (is_published may line)
+row_published may arena (Sent id ports untagged plain tagged) = sent_published may id ports untagged (at arena plain) (at arena tagged)
+row_published may arena (Ctl port bytes) = refl
+
+sent_after : (is_report : ℕ → Bool) (before : Bool) (id : ℕ) (ports untagged plain tagged : List ℕ) → fold (refused_after is_report) before (sent_lines id ports untagged plain tagged) ≡ before
 sent_after is_report before id [] untagged plain tagged = refl
 sent_after is_report before id (port ∷ ports) untagged plain tagged = sent_after is_report before id ports untagged plain tagged
+
+pub row_after : (is_report : ℕ → Bool) (before : Bool) (arena : List ℕ) (row : Row) → fold (refused_after is_report) before (expand_row arena row) ≡ refused_by is_report before (row_answer row)
+row_after is_report before arena (One line) = refl
+row_after is_report before arena (Sent id ports untagged plain tagged) = sent_after is_report before id ports untagged (at arena plain) (at arena tagged)
+row_after is_report before arena (Ctl port bytes) = refl
 
 module _ (arena : List ℕ) (rows : List Row) (i : ℕ) (row : Row) (h : i < length rows) (e : row ≡ get_or rows i row) where
   pub all_at_row : (p : Line → Bool) → list_all p (expand arena (drop i rows)) ≡ (list_all p (expand_row arena row) && list_all p (expand arena (drop (i + 1) rows)))

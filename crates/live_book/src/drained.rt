@@ -3,11 +3,10 @@ ghost use Rattle.std.specs.Prelude.{◌≡◌, ◌&&◌, ℕ, List};
 ghost use Rattle.std.specs.List.{fold, list_all};
 ghost use Rattle.transcript_lines.specs.Rows.{expand, expand_row};
 ghost use Rattle.live_book.specs.Ends.{is_idle};
-ghost use Rattle.live_book.specs.Reading.{refused_after, reports, was_refused};
+ghost use Rattle.live_book.specs.Reading.{refused_after, refused_by, reports, was_refused};
 
 use br_model::numbers::Dom;
 use br_model::steps::{Refusal, Step};
-use br_model::transcript::Line;
 use lists::Items;
 use transcript_lines::Row;
 
@@ -34,27 +33,25 @@ fn reports(steps: &[Step], dom: Dom, number: u32) -> bool
     }
 }
 
-/// Whether the last report of the domain's chip was refused for want of room, after a line more.
-fn after_line(before: bool, line: &Line, steps: &[Step], dom: Dom) -> bool
-    ensures { result ≡ refused_after (reports steps.now dom) before line.now }
+/// Whether the last report of the domain's chip was refused for want of room, after a step that ends so.
+fn refused_by(
+    before: bool,
+    answer: Option<(u32, Result<u32, Refusal>)>,
+    steps: &[Step],
+    dom: Dom,
+) -> bool
+    ensures { result ≡ refused_by (reports steps.now dom) before answer }
 {
-    match line {
-        Line::Done { step, .. } => before && !reports(steps, dom, *step),
-        Line::Refused { step, refusal } => {
-            if reports(steps, dom, *step) {
+    match answer {
+        Some((step, Ok(_))) => before && !reports(steps, dom, step),
+        Some((step, Err(refusal))) => {
+            if reports(steps, dom, step) {
                 refusal.number() == Refusal::HistoryFull.number()
             } else {
                 before
             }
         }
-        Line::Chip { .. }
-        | Line::Unread { .. }
-        | Line::Soft { .. }
-        | Line::Held { .. }
-        | Line::Tx { .. }
-        | Line::Ctl { .. }
-        | Line::Overrun { .. }
-        | Line::End { .. } => before,
+        None => before,
     }
 }
 
@@ -62,11 +59,7 @@ fn after_line(before: bool, line: &Line, steps: &[Step], dom: Dom) -> bool
 fn after_row(before: bool, row: &Row, steps: &[Step], dom: Dom) -> bool
     ensures { (arena : List ℕ) → result ≡ fold (refused_after (reports steps.now dom)) before (expand_row arena row.now) }
 {
-    match row {
-        Row::One(line) => after_line(before, line, steps, dom),
-        Row::Sent { .. } => before,
-        Row::Ctl { .. } => before,
-    }
+    refused_by(before, row.answer(), steps, dom)
 }
 
 fn was_refused(rows: &[Row], steps: &[Step], dom: Dom) -> bool

@@ -2,10 +2,9 @@
 ghost use Rattle.std.specs.Prelude.{◌≡◌, ℕ, List};
 ghost use Rattle.std.specs.List.{list_all};
 ghost use Rattle.transcript_lines.specs.Rows.{expand, expand_row};
-ghost use Rattle.live_book.specs.Reading.{is_published, may_change};
+ghost use Rattle.live_book.specs.Reading.{is_end_published, is_published, may_change};
 
-use br_model::steps::Step;
-use br_model::transcript::Line;
+use br_model::steps::{Refusal, Step};
 use transcript_lines::Row;
 
 fn may_change(steps: &[Step], first: usize, drain: usize, number: u32) -> bool
@@ -15,31 +14,24 @@ fn may_change(steps: &[Step], first: usize, drain: usize, number: u32) -> bool
     number <= first || drain < number || steps.get(number).is_some_and(Step::is_publish)
 }
 
-fn is_line_published(line: &Line, steps: &[Step], first: usize, drain: usize) -> bool
-    ensures { result ≡ is_published (may_change steps.now first drain) line.now }
+fn is_end_published(
+    answer: Option<(u32, Result<u32, Refusal>)>,
+    steps: &[Step],
+    first: usize,
+    drain: usize,
+) -> bool
+    ensures { result ≡ is_end_published (may_change steps.now first drain) answer }
 {
-    match line {
-        Line::Done { step, changes } => *changes == 0 || may_change(steps, first, drain, *step),
-        Line::Chip { .. }
-        | Line::Unread { .. }
-        | Line::Soft { .. }
-        | Line::Held { .. }
-        | Line::Tx { .. }
-        | Line::Ctl { .. }
-        | Line::Overrun { .. }
-        | Line::Refused { .. }
-        | Line::End { .. } => true,
+    match answer {
+        Some((step, Ok(changes))) => changes == 0 || may_change(steps, first, drain, step),
+        Some((_, Err(_))) | None => true,
     }
 }
 
 fn is_published(row: &Row, steps: &[Step], first: usize, drain: usize) -> bool
     ensures { (arena : List ℕ) → result ≡ list_all (is_published (may_change steps.now first drain)) (expand_row arena row.now) }
 {
-    match row {
-        Row::One(line) => is_line_published(line, steps, first, drain),
-        Row::Sent { .. } => true,
-        Row::Ctl { .. } => true,
-    }
+    is_end_published(row.answer(), steps, first, drain)
 }
 
 /// Whether each step that accepted changes, behind the first part and before the drain, is directly followed by a publication.

@@ -1,15 +1,18 @@
 -- Bytes that come to the arena leave what stands in it.
-use Rattle.std.proofs.Common.{arith, ◌≡◌, ℕ, Bool, true, false, if◌then◌else◌, zero, suc, ◌+◌, ◌-◌, ◌<◌, ◌≤◌, min, List, [], ◌∷◌, ◌++◌, map, length, get_or, take, drop, refl, sym, ap, ap₂, ◌∙◌, subst}
-use Rattle.std.specs.List.{filter}
+use Rattle.std.proofs.Common.{arith, ◌≡◌, ℕ, Bool, true, false, if◌then◌else◌, zero, suc, ◌+◌, ◌-◌, ◌<◌, ◌≤◌, min, List, [], ◌∷◌, ◌++◌, map, length, get_or, take, drop, ◌||◌, refl, sym, ap, ap₂, ◌∙◌, subst}
+use Rattle.std.specs.List.{filter, list_any}
 use Rattle.std.proofs.Math.Seq.{take-length, drop-append_seam}
 use Rattle.std.proofs.lemmas.List.{append-nil, drop_all, drop-drop, length-append, length-take-le, take-append-drop, take-append-le, drop-append-le, length-drop}
 use Rattle.std.proofs.lemmas.Grind.{flat_map-append}
+use Rattle.std.proofs.lemmas.List.Folds.{list_any-append}
+use Rattle.lemmas.proofs.Tests.{or-false}
 use Rattle.br_model.specs.declared.transcript.Line.{Line}
 use Rattle.br_model.specs.declared.transcript.Line.TheVariants as lines
+use Rattle.br_model.specs.Plane.LineTraits.{is_done}
 use Rattle.transcript_lines.specs.declared.row.Row.{Row}
 use Rattle.transcript_lines.specs.declared.row.Row.TheVariants.{One, Sent, Ctl}
 use Rattle.transcript_lines.specs.declared.row.Span.{Span}
-use Rattle.transcript_lines.specs.Rows.{at, sent_lines, expand_row, expand, moved, moved_row, room, IsInside, AreInside, IsBehind, AreBehind, AreSaved, Fit}
+use Rattle.transcript_lines.specs.Rows.{at, sent_lines, expand_row, expand, moved, moved_row, room, row_is_done, IsInside, AreInside, IsBehind, AreBehind, AreSaved, Fit}
 
 pub at-more : (arena more : List ℕ) (s : Span) → s.from + s.len ≤ length arena → at (arena ++ more) s ≡ at arena s
 at-more arena more s inside =
@@ -223,3 +226,22 @@ none_by q x xs f g false is same rest none = ap₂ (λ y ys. y ∷ ys) (same x i
 pub none_left : {A B : Type 0} (q : A → Bool) (xs : List A) (f g : A → B) → ((m : A) → q m ≡ false → f m ≡ g m) → filter q xs ≡ [] → map f xs ≡ map g xs
 none_left q [] f g same none = refl
 none_left q (x ∷ xs) f g same none = none_by q x xs f g (q x) refl same (none_left q xs f g same) none
+
+-- Answers.
+
+module _ (id : ℕ) (untagged plain tagged : List ℕ) where
+  none_done : (ports : List ℕ) → list_any is_done (sent_lines id ports untagged plain tagged) ≡ false
+  none_done [] = refl
+  none_done (port ∷ ports) = none_done ports
+
+row_done : (arena : List ℕ) (row : Row) → row_is_done row ≡ list_any is_done (expand_row arena row)
+row_done arena (One line) = sym (or-false (is_done line))
+row_done arena (Sent id ports untagged plain tagged) = sym (none_done id untagged (at arena plain) (at arena tagged) ports)
+row_done arena (Ctl port bytes) = refl
+
+pub rows_done : (arena : List ℕ) (rows : List Row) → list_any row_is_done rows ≡ list_any is_done (expand arena rows)
+rows_done arena [] = refl
+rows_done arena (row ∷ rows) =
+    ap (λ b. b || list_any row_is_done rows) (row_done arena row)
+    ∙ ap (λ b. list_any is_done (expand_row arena row) || b) (rows_done arena rows)
+    ∙ sym (list_any-append is_done (expand_row arena row) (expand arena rows))

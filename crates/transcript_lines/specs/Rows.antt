@@ -1,8 +1,14 @@
 -- Rows of lines over an arena of bytes, and the lines that they stand for.
-use Rattle.std.specs.Prelude.{ℕ, ◌≡◌, ◌+◌, ◌-◌, ◌≤◌, min, if◌then◌else◌, List, [], ◌∷◌, ◌++◌, map, take, drop, length}
+use Rattle.std.specs.Prelude.{ℕ, ◌≡◌, ◌+◌, ◌-◌, ◌≤◌, min, Bool, false, if◌then◌else◌, List, [], ◌∷◌, ◌++◌, map, take, drop, length, IsNone, is_ok}
 use Rattle.std.specs.List.{flat_map}
+use Rattle.std.specs.Option.{option_map_or}
+use Rattle.std.specs.declared.option.Option.{Option}
+use Rattle.std.specs.declared.option.Option.TheVariants.{None}
+use Rattle.std.specs.declared.result.Result.{Result}
+use Rattle.br_model.specs.declared.steps.Refusal.{Refusal}
 use Rattle.br_model.specs.declared.transcript.Line.{Line}
 use Rattle.br_model.specs.declared.transcript.Line.TheVariants as lines
+use Rattle.br_model.specs.Plane.LineTraits.{line_traits}
 use Rattle.port_sets.specs.Numbers.{has_number}
 use Rattle.transcript_lines.specs.declared.row.Row.{Row}
 use Rattle.transcript_lines.specs.declared.row.Row.TheVariants.{One, Sent, Ctl}
@@ -31,6 +37,16 @@ expand_row arena (One line) = line ∷ []
 expand_row arena (Sent id ports untagged plain tagged) = sent_lines id ports untagged (at arena plain) (at arena tagged)
 expand_row arena (Ctl port bytes) = lines.Ctl port (at arena bytes) ∷ []
 
+-- What the line among them that ends a step says of it. No line of a frame ends one.
+abbrev pub row_answer : Row → Option (ℕ × Result ℕ Refusal)
+row_answer (One line) = (line_traits line).answer
+row_answer (Sent id ports untagged plain tagged) = None
+row_answer (Ctl port bytes) = None
+
+-- whether one of them says that a step was done
+abbrev pub row_is_done : Row → Bool
+row_is_done row = option_map_or (λ a. is_ok a.1) (row_answer row) false
+
 -- the lines that the rows stand for
 abbrev pub expand : List ℕ → List Row → List Line
 expand arena rows = flat_map (expand_row arena) rows
@@ -47,16 +63,7 @@ AreInside most (row ∷ rows) = IsInside most row × AreInside most rows
 
 -- the line has no bytes of its own
 abbrev pub IsPlain : Line → Type 0
-IsPlain (lines.Chip id changes applied class) = Unit
-IsPlain (lines.Unread id why) = Unit
-IsPlain (lines.Soft id point) = Unit
-IsPlain (lines.Held id floor) = Unit
-IsPlain (lines.Tx id port bytes) = ⊥
-IsPlain (lines.Ctl port bytes) = ⊥
-IsPlain (lines.Overrun id) = Unit
-IsPlain (lines.Done step changes) = Unit
-IsPlain (lines.Refused step refusal) = Unit
-IsPlain (lines.End steps changes pending waiting) = Unit
+IsPlain line = IsNone (line_traits line).leaves
 
 -- the row's bytes stand behind so many
 abbrev pub IsBehind : ℕ → Row → Type 0

@@ -1,7 +1,9 @@
 //! Lines, with room for more.
 ghost use Rattle.std.specs.Prelude.{◌≡◌, ◌⊎◌, ◌+◌, ◌-◌, ◌*◌, ◌<◌, ◌≤◌, ◌++◌, ◌∷◌, [], length, map, vec_len, vec_capacity, OnOk, OnErr};
+ghost use Rattle.std.specs.List.{list_any};
 ghost use Rattle.br_model.specs.declared.transcript.Line.TheVariants as line;
-ghost use Rattle.transcript_lines.specs.Rows.{at, expand, moved_row, room, sent_lines, AreBehind, Fit, IsPlain, StoresTagged};
+ghost use Rattle.br_model.specs.Plane.LineTraits.{is_done};
+ghost use Rattle.transcript_lines.specs.Rows.{at, expand, moved_row, room, row_is_done, sent_lines, AreBehind, Fit, IsPlain, StoresTagged};
 
 use crate::row::{Row, Span};
 use br_model::NoMemory;
@@ -136,6 +138,13 @@ fn add_moved(rows: &mut Vec<Row>, of: &[Row], front: usize)
     for place in 0..of.len() {
         rows.push_reserved(of[place].moved(front));
     }
+}
+
+/// Whether some line of these rows says that a step was done.
+fn any_done(rows: &[Row]) -> bool
+    ensures { result ≡ list_any row_is_done rows.now }
+{
+    rows.iter().any(|row| row.is_done())
 }
 
 impl Lines {
@@ -314,5 +323,12 @@ impl Lines {
         ensures { expand result.1.now result.0.now ≡ self.now.lines }
     {
         (self.rows.as_slice(), self.bytes.as_slice())
+    }
+    /// Whether some line says that a step was done.
+    pub fn any_done(&self) -> bool
+        ensures { result ≡ list_any is_done self.now.lines }
+    {
+        let (rows, _) = self.parts();
+        any_done(rows)
     }
 }

@@ -1,8 +1,9 @@
 //! Rows of lines, and where their bytes stand.
 ghost use Rattle.std.specs.Prelude.{◌≡◌, ◌≤◌};
-ghost use Rattle.transcript_lines.specs.Rows.{at, moved, moved_row, IsBehind, IsPlain};
+ghost use Rattle.transcript_lines.specs.Rows.{at, moved, moved_row, row_answer, row_is_done, IsBehind, IsPlain};
 
 use br_model::numbers::Port;
+use br_model::steps::Refusal;
 use br_model::transcript::Line;
 use port_sets::Ports;
 
@@ -96,6 +97,23 @@ fn copy_of(line: &Line) -> Line
 }
 
 impl Row {
+    /// What the line among them that ends a step says of it, as `Line::answer` does.
+    pub fn answer(&self) -> Option<(u32, Result<u32, Refusal>)>
+        ensures { result ≡ row_answer self.now }
+    {
+        match self {
+            Row::One(line) => line.answer(),
+            Row::Sent { .. } | Row::Ctl { .. } => None,
+        }
+    }
+
+    /// Whether one of its lines says that a step was done.
+    pub(crate) fn is_done(&self) -> bool
+        ensures { result ≡ row_is_done self.now }
+    {
+        matches!(self.answer(), Some((_, Ok(_))))
+    }
+
     /// The same row over an arena without the first bytes, which are so many.
     pub(crate) fn moved(&self, front: usize) -> Row
         requires { IsBehind front self.now }

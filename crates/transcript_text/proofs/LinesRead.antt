@@ -20,10 +20,10 @@ use Rattle.br_model.specs.declared.steps.Refusal.{Refusal}
 use Rattle.br_model.specs.declared.transcript.Line.{Line}
 use Rattle.br_model.specs.declared.transcript.Line.TheVariants.{Chip, Unread, Soft, Held, Tx, Ctl, Overrun, Done, Refused, End}
 use Rattle.br_model.specs.Control.Refusals.{refusal_number, refusal_of}
-use Rattle.br_model.specs.Text.Transcript.{line_text, class_word, fault_word}
+use Rattle.br_model.specs.Text.Transcript.{line_text, line_words, class_word, fault_word}
 use Rattle.br_model.specs.Text.Words.{Word}
 use Rattle.br_model.proofs.Control.Refusals as refusals
-use Rattle.transcript_text.specs.Lines.{is_number, is_port, is_line, line_words}
+use Rattle.transcript_text.specs.Lines.{is_number, is_port, is_line}
 use Rattle.transcript_text.specs.Reading as reading
 use Rattle.transcript_text.specs.Reading.{word, says, ◌>>=◌, in_range}
 use Rattle.transcript_text.proofs.HexWords.{frame_is, frame_back}

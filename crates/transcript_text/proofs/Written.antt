@@ -15,28 +15,24 @@ use Rattle.br_model.specs.declared.transcript.Line.{Line}
 use Rattle.br_model.specs.declared.transcript.Line.TheVariants.{Chip, Unread, Soft, Held, Tx, Ctl, Overrun, Done, Refused, End}
 use Rattle.br_model.specs.Control.Refusals.{refusal_number}
 use Rattle.br_model.specs.Data.Digits.{hex_of}
-use Rattle.br_model.specs.Text.Transcript.{line_text, class_word, fault_word}
+use Rattle.br_model.specs.Text.Transcript.{line_text, line_words, with_feed, class_word, fault_word}
 use Rattle.br_model.specs.Text.Words.{Word, is_word}
 use Rattle.br_model.proofs.Control.Refusals.{each_number}
 use Rattle.br_model.proofs.Text.WrittenNumbers.{decimal_proper, hex_proper}
 use Rattle.br_model.proofs.Text.WrittenWords.{is_letter, letters, is_proper}
-use Rattle.transcript_text.specs.Lines.{is_number, is_port, is_frame, is_line, line_words}
+use Rattle.transcript_text.specs.Lines.{is_number, is_port, is_frame, is_line}
 use Rattle.transcript_text.proofs.Spaces.{is_space, parts}
 
 abbrev pub joined : List Word → List ℕ
 joined ws = join_with_byte 32 ws
 
+feed_behind : (ws : List Word) → with_feed ws ≡ joined ws ++ 10 ∷ []
+feed_behind [] = refl
+feed_behind (w ∷ []) = refl
+feed_behind (w ∷ v ∷ ws) = ap (λ (text : List ℕ). w ++ 32 ∷ text) (feed_behind (v ∷ ws)) ∙ sym (append_assoc w (32 ∷ joined (v ∷ ws)) (10 ∷ []))
+
 pub text_is : (l : Line) → line_text l ≡ joined (line_words l) ++ 10 ∷ []
-text_is (Chip id changes applied class) = simp append_assoc
-text_is (Unread id why) = simp append_assoc
-text_is (Soft id point) = simp append_assoc
-text_is (Held id floor) = simp append_assoc
-text_is (Tx id port bytes) = simp append_assoc
-text_is (Ctl port bytes) = simp append_assoc
-text_is (Overrun id) = simp append_assoc
-text_is (Done step changes) = simp append_assoc
-text_is (Refused step why) = simp append_assoc
-text_is (End steps changes pending waiting) = simp append_assoc
+text_is l = feed_behind (line_words l)
 
 -- no word of a line is empty, or has a space or another byte above 0x7F
 
@@ -130,15 +126,7 @@ joined_ascii w (v ∷ ws) h =
 
 pub some_words : (l : Line) → (w : Word) × (ws : List Word) × (line_words l ≡ w ∷ ws)
 some_words (Chip id changes applied class) = (_, _, refl)
-some_words (Unread id why) = (_, _, refl)
-some_words (Soft id point) = (_, _, refl)
-some_words (Held id floor) = (_, _, refl)
-some_words (Tx id port bytes) = (_, _, refl)
-some_words (Ctl port bytes) = (_, _, refl)
-some_words (Overrun id) = (_, _, refl)
-some_words (Done step changes) = (_, _, refl)
-some_words (Refused step why) = (_, _, refl)
-some_words (End steps changes pending waiting) = (_, _, refl)
+some_words l = (_, _, refl)
 
 pub line_parts : (l : Line) → is_line l ≡ true → parts (joined (line_words l)) ≡ line_words l
 line_parts l h =
@@ -153,12 +141,4 @@ line_ascii l h =
 
 pub few_words : (l : Line) → length (line_words l) ≤ 6
 few_words (Chip id changes applied class) = omega arith
-few_words (Unread id why) = omega arith
-few_words (Soft id point) = omega arith
-few_words (Held id floor) = omega arith
-few_words (Tx id port bytes) = omega arith
-few_words (Ctl port bytes) = omega arith
-few_words (Overrun id) = omega arith
-few_words (Done step changes) = omega arith
-few_words (Refused step why) = omega arith
-few_words (End steps changes pending waiting) = omega arith
+few_words l = omega arith

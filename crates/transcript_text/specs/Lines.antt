@@ -1,14 +1,9 @@
--- Which lines can be read, and their words.
-use Rattle.std.specs.Prelude.{ℕ, ◌^◌, nat_lt, nat_le, Bool, false, ◌&&◌, List, [], ◌∷◌, codes}
-use Rattle.std.specs.Fmt.{decimal}
+-- Which lines can be read.
+use Rattle.std.specs.Prelude.{ℕ, ◌^◌, nat_lt, nat_le, Bool, false, ◌&&◌, List, [], ◌∷◌}
 use Rattle.std.specs.List.{list_all}
 use Rattle.br_model.specs.declared.transcript.Line.{Line}
 use Rattle.br_model.specs.declared.transcript.Line.TheVariants.{Chip, Unread, Soft, Held, Tx, Ctl, Overrun, Done, Refused, End}
-use Rattle.br_model.specs.Control.Refusals.{refusal_number}
-use Rattle.br_model.specs.Data.Digits.{hex_of}
 use Rattle.br_model.specs.Table.Domains.{last_port}
-use Rattle.br_model.specs.Text.Transcript.{fault_word, class_word}
-use Rattle.br_model.specs.Text.Words.{Word}
 use Rattle.br_model.specs.Text.Operands.{is_byte}
 
 abbrev pub is_number : ℕ → Bool
@@ -34,16 +29,3 @@ is_line (Overrun id) = is_number id
 is_line (Done step changes) = is_number step && is_number changes
 is_line (Refused step why) = is_number step
 is_line (End steps changes pending waiting) = is_number steps && (is_number changes && (is_number pending && is_number waiting))
-
--- what stands between a line's spaces
-abbrev pub line_words : Line → List Word
-line_words (Chip id changes applied class) = codes "chip" ∷ decimal id ∷ codes "at" ∷ decimal changes ∷ decimal applied ∷ class_word class ∷ []
-line_words (Unread id why) = codes "unread" ∷ decimal id ∷ fault_word why ∷ []
-line_words (Soft id point) = codes "soft" ∷ decimal id ∷ codes "at" ∷ decimal point ∷ []
-line_words (Held id floor) = codes "held" ∷ decimal id ∷ decimal floor ∷ []
-line_words (Tx id port bytes) = codes "tx" ∷ decimal id ∷ decimal port ∷ hex_of bytes ∷ []
-line_words (Ctl port bytes) = codes "ctl" ∷ decimal port ∷ hex_of bytes ∷ []
-line_words (Overrun id) = codes "overrun" ∷ decimal id ∷ []
-line_words (Done step changes) = codes "ok" ∷ decimal step ∷ decimal changes ∷ []
-line_words (Refused step why) = codes "refused" ∷ decimal step ∷ decimal (refusal_number why) ∷ []
-line_words (End steps changes pending waiting) = codes "end" ∷ decimal steps ∷ decimal changes ∷ decimal pending ∷ decimal waiting ∷ []

@@ -1,6 +1,7 @@
 //! Lines as rows over an arena of bytes.
 use super::common::{assert_bytes, assert_same, assert_that};
 use br_model::numbers::Port;
+use br_model::steps::Refusal;
 use br_model::transcript::Line;
 use port_sets::Ports;
 use std::alloc::Global;
@@ -112,6 +113,34 @@ fn a_copy_is_what_stands_behind_the_savepoint(rt: HostRuntime) {
     assert_that(&rt, is_soft(&rows[1]), "the plain line");
     assert_rows(&rt, &lines, 3);
     assert_rows(&rt, &lines.copy_out(rt.alloc()), 0);
+}
+
+fn refused() -> Line {
+    Line::Refused {
+        step: 2,
+        refusal: Refusal::NothingWaiting,
+    }
+}
+
+fn is_refused(line: &Line) -> bool {
+    matches!(line.refusal(), Some(Refusal::NothingWaiting))
+}
+
+/// Whether the row says that step 2 is refused.
+fn refuses(row: &Row) -> bool {
+    matches!(row.answer(), Some((2, Err(Refusal::NothingWaiting))))
+}
+
+#[test]
+fn a_line_says_how_its_step_ended(rt: HostRuntime) {
+    assert_that(&rt, is_refused(&refused()), "a refusal");
+    assert_that(&rt, lines(&rt, rt.alloc()).any_done(), "step 1 was done");
+    let mut lines = saved(&rt, rt.alloc());
+    lines.push(refused()).expect(&rt, "memory");
+    let (rows, _) = lines.parts();
+    assert!(rt; rows.len() == 4);
+    assert_that(&rt, refuses(&rows[3]), "step 2 is refused");
+    assert_that(&rt, !lines.any_done(), "no step was done");
 }
 
 /// Where spans begin, their lengths, and what they hold of three bytes.
