@@ -98,7 +98,7 @@ def run(case, found, changes):
 def read_commands(path, names):
     """(moment, words) of each line. A word that isn't understood is a fault of its line."""
     found, tried = [], Commands(bridge_of(names))
-    with open(path) as file:
+    with open(path, errors="replace") as file:
         for number, line in enumerate(file, 1):
             words = line.split()
             if not words or words[0].startswith("#"):
