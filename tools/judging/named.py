@@ -422,7 +422,7 @@ def keep_members(case, frame, message, name):
         text = packets.group_text(group)
         key = view.key[0], text, view.device
         if case.bridge.mdb.get(key) is False:
-            case.followed.add(key)
+            case.window.followed.add(key)
             case.model.join(frame.time, view.number, name, view.vid, text)
             case.notes["leave-querier"] += 1
 
