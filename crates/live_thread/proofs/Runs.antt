@@ -1,6 +1,5 @@
 -- Worlds of a run, step by step, and what is published in them.
-use Rattle.std.proofs.Common.{◌≡◌, ℕ, zero, suc, drop, Bool, true, false, List, [], ◌∷◌, ◌++◌, refl, sym, ◌∙◌, ap, subst, length, nat_lt, true≢false, arith}
-use Rattle.std.specs.Cmp.{second_so}
+use Rattle.std.proofs.Common.{◌≡◌, ℕ, true, false, List, [], ◌∷◌, ◌++◌, sym, ◌∙◌, ap, subst, length, nat_lt, true≢false, arith}
 use Rattle.std.specs.List.{list_all}
 use Rattle.br_model.specs.declared.steps.Step.{Step}
 use Rattle.br_model.specs.Plane.Steps.{world_step}

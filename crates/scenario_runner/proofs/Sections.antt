@@ -9,7 +9,7 @@ use Rattle.br_model.specs.declared.steps.Step.{Step}
 use Rattle.br_model.specs.Wire.Captures.{packets}
 use Rattle.br_model.specs.Text.Roster.{Roster, chips_of}
 use Rattle.br_model.specs.Program.Runs.{run_of, body_of}
-use Rattle.br_model.specs.Text.Scenario.{Scenario, Ending, Going, Ended, Bad, Progress, bad, captured, closes_at, read, takes, takes_steps}
+use Rattle.br_model.specs.Text.Scenario.{Scenario, Bad, Progress, bad, captured, read, takes, takes_steps}
 use Rattle.br_model.proofs.Program.SameRuns.{same_run}
 use Rattle.br_model.proofs.Text.Endings.{closes_within, read_ended}
 use Rattle.br_model.proofs.Text.Reading.{read_line, read_part}

@@ -1,20 +1,16 @@
 -- The text of a run, from its first line to its last.
 use Rattle.std.proofs.Common.{◌≡◌, ◌⊎◌, ℕ, ◌+◌, ◌≤◌, ◌==◌, ◌||◌, false, not, nat_lt, is_some, List, [], ◌∷◌, ◌++◌, length, take, drop}
-use Rattle.std.proofs.Common.{map, None, Some, Option, Result, Ok, Err, inl, inr, refl, sym, ◌∙◌, ap, subst, arith, codes, append_assoc, length-append}
+use Rattle.std.proofs.Common.{None, Some, Option, Result, Ok, Err, inl, inr, refl, sym, ◌∙◌, ap, subst, arith, codes, append_assoc, length-append}
 use Rattle.std.specs.Io.KnownBytes.{Appends, Consumes}
-use Rattle.std.specs.List.{list_all, sum_by}
+use Rattle.std.specs.List.{list_all}
 use Rattle.std.proofs.KnownBytes.{Appends-trans}
 use Rattle.std.proofs.lemmas.List.{append-nil}
 use Rattle.run_io.specs.declared.lines.LineFault.{LineFault}
 use Rattle.run_io.specs.Reading.{Reading, holds_next, is_no_feed, max_line}
 use Rattle.br_model.specs.Table.Limits.{most_bytes}
-use Rattle.br_model.specs.Plane.Chip.{first_chip}
-use Rattle.br_model.specs.Plane.Runs.{run, end_line, pending_of}
-use Rattle.br_model.specs.Plane.World.{World, Stepped, first_world}
-use Rattle.br_model.specs.Table.Domains.{chip_domains}
-use Rattle.br_model.specs.Table.Setup.{Setup}
-use Rattle.br_model.specs.declared.transcript.Line.TheVariants.{End}
-use Rattle.br_model.specs.Program.Runs.{run_of, body_of, body, body_parts, told, last_text, setup_of}
+use Rattle.br_model.specs.Plane.Runs.{end_line}
+use Rattle.br_model.specs.Plane.World.{World}
+use Rattle.br_model.specs.Program.Runs.{run_of, body_of, body, body_parts, told, last_text}
 use Rattle.br_model.specs.Text.Scenario.{Scenario, Ending, opened, scenario}
 use Rattle.br_model.specs.Text.Transcript.{line_text, text as lines_text}
 use Rattle.br_model.proofs.Program.SameRuns.{no_steps, no_steps_end}

@@ -1,18 +1,15 @@
 -- What is told as a scenario goes on: by lines without a step, and by steps.
-use Rattle.std.proofs.Common.{◌≡◌, ℕ, ◌+◌, Bool, true, false, List, [], ◌∷◌, ◌++◌, length, map, Option, None, Some, Result, Ok, Err, OnOk, refl, sym, ◌∙◌, ap, subst, arith, codes}
+use Rattle.std.proofs.Common.{◌≡◌, ℕ, ◌+◌, Bool, true, false, List, [], ◌∷◌, ◌++◌, length, Option, None, Some, Result, Ok, Err, OnOk, refl, sym, ◌∙◌, ap, subst, arith, codes}
 use Rattle.std.proofs.Common.{append_assoc, string_bytes}
 use Rattle.std.specs.Prelude.{IfSome}
-use Rattle.std.specs.List.{sum_by}
 use Rattle.std.proofs.lemmas.List.{append-nil}
 use Rattle.br_model.specs.declared.scenario.Place.TheVariants as places
 use Rattle.br_model.specs.declared.steps.Step.{Step}
 use Rattle.br_model.specs.declared.steps.Step.TheVariants.{Rx, Cmd, Now, Serve, Hold, Post, Turn, Report, Sweep, Publish}
 use Rattle.br_model.specs.declared.transcript.Line.{Line}
-use Rattle.br_model.specs.declared.transcript.Line.TheVariants.{End}
-use Rattle.br_model.specs.Plane.Chip.{first_chip}
-use Rattle.br_model.specs.Plane.Runs.{end_line, pending_of, run, then_step}
+use Rattle.br_model.specs.Plane.Runs.{end_line, run, then_step}
 use Rattle.br_model.specs.Plane.Steps.{world_step}
-use Rattle.br_model.specs.Plane.World.{World, Stepped, first_world}
+use Rattle.br_model.specs.Plane.World.{World, Stepped}
 use Rattle.br_model.specs.Program.Runs.{body_of, last_text, run_of, setup_of, told}
 use Rattle.br_model.specs.Table.Domains.{chip_domains}
 use Rattle.br_model.specs.Table.Setup.{Setup}
