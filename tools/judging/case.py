@@ -54,7 +54,7 @@ class Case:
     def open(self, time):
         """Begins a window with what the kernel has."""
         present = self.bridge.ports
-        self.window = Window(Model(self.window.model if self.window else None, present), self.why_skipped(time))
+        self.window = Window(time, Model(self.window.model if self.window else None, present), self.why_skipped(time))
         self.snooped.keep(self.model.numbers.values())
         self.bridge.changes = Changes(True)
         self.cached.clear()
@@ -156,7 +156,7 @@ class Case:
         if self.is_over or self.window is None:
             return
         has_room = not self.bridge.changes.ports or self.window.skip or self.model.has_room(self.bridge.ports)
-        if not has_room or self.window.is_full(self.bounds):
+        if not has_room or self.window.is_heavy():
             self.renew(time)
             return
         if self.model.snooping and not self.bridge.is_snooping():
@@ -270,7 +270,7 @@ class Case:
         if entry.kind != "learned" and before[1] == "learned":
             self.sync_moments(time)
             self.model.forget(*key)
-        elif entry.kind == "learned" and how == "command":
+        elif entry.kind == "learned" and (how == "command" or self.is_of_before(entry.vid, entry.mac)):
             self.pending.append((time, "learned", entry.index, entry.vid, entry.mac))
         elif entry.kind == "learned" and before[1] == "extern":
             self.model.fdb.pop(key, None)  # a station that moves takes over what a chip learned, in both
@@ -303,7 +303,13 @@ class Case:
             self.told[key] = time
             if before is False and self.bridge.mdb[key]:
                 self.end_member(time, key)
+            elif not self.bridge.mdb[key] and self.window and self.is_of_before(*key):
+                self.pending.append((time, "member", member.index, member.vid, member.group))
         self.changed(time)
+
+    def is_of_before(self, *key):
+        """Whether what is told now came by a frame of the window before."""
+        return self.heard.get(key, self.window.begin) < self.window.begin
 
     def member_gone(self, time, key, before, by_command):
         self.gone[key].append(time)

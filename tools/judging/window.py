@@ -33,10 +33,13 @@ class Cut:
 class Window:
     """A part of the record with a scenario of its own. `skip`: why it isn't judged, or None."""
 
-    def __init__(self, model, skip=None):
-        self.model, self.skip, self.end, self.looked = model, skip, None, 0
+    def __init__(self, begin, model, skip=None):
+        self.begin, self.model, self.skip, self.end, self.looked = begin, model, skip, None, 0
         self.frames, self.cuts, self.strangers = [], [], []
         self.followed, self.taught = set(), set()  # members and addresses that the judge put in, whose ends it follows
 
     def is_full(self, bounds):
-        return len(self.frames) >= bounds.frames or self.model.weight > MOST_WEIGHT or self.model.size > MOST_SIZE
+        return len(self.frames) >= bounds.frames or self.is_heavy()
+
+    def is_heavy(self):
+        return self.model.weight > MOST_WEIGHT or self.model.size > MOST_SIZE
