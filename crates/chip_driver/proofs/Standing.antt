@@ -86,7 +86,7 @@ pub drives_port : (d : Domains) (t : Table) (up : List ℕ) (flags state : List 
     → IsRemade (record old.rows { ports = kept.tables.ports }) kept.tables
     → row ≡ port_wanted d old.dom (record t { up = up; flags = flags; state = state }) p
     → ((q : ℕ) → q ≢ p → port_wanted d old.dom (record t { up = up; flags = flags; state = state }) q ≡ port_wanted d old.dom t q)
-    → Drives d (driven old.dom kept) (record t { up = up; flags = flags; state = state })
+    → Drives d (driven old.dom old.count kept) (record t { up = up; flags = flags; state = state })
 drives_port d t up flags state p row old kept before is_kept routers_is groups_is writes rest written unwritten = record {
   rows = stands d old.dom _ kept.shadow kept.joined kept.tables is_kept.settled
       (λ vid in_range. ap (λ (r : Rows). vlan_at r vid) rest ∙ before.rows.vlans vid in_range)
@@ -114,7 +114,7 @@ switched_set set old p on test test' is has h = is ∙ same_ports _ _ (λ q low.
 -- A router comes or goes.
 pub drives_router : (d : Domains) (t : Table) (p : ℕ) (on : Bool) (old : Driven) (kept : Kept) → Drives d old t
     → IsKept kept → kept.shadow.routers ≡ switched old.routers p on → kept.groups ≡ old.groups
-    → IsRemade old.rows kept.tables → Drives d (driven old.dom kept) (record t { routers = table.switched on t.routers p })
+    → IsRemade old.rows kept.tables → Drives d (driven old.dom old.count kept) (record t { routers = table.switched on t.routers p })
 drives_router d t p on old kept before is_kept routers_is groups_is rest = record {
   rows = stands d old.dom _ kept.shadow kept.joined kept.tables is_kept.settled
       (λ vid in_range. ap (λ (r : Rows). vlan_at r vid) rest ∙ before.rows.vlans vid in_range)
@@ -172,7 +172,7 @@ pub drives_vlan : (d : Domains) (t : Table) (vlans : List ((ℕ × ℕ) × Bool)
     → WritesVlan old.rows mid v (switched_row (vlan_at old.rows v) p on plain)
     → IsRemade (record old.rows { vlans = mid.vlans }) mid
     → WritesPort mid kept.tables p port → kept.tables ≡ record mid { ports = kept.tables.ports } → port ≡ port_wanted d old.dom (record t { vlans = vlans; pvid = pvid }) p
-    → Drives d (driven old.dom kept) (record t { vlans = vlans; pvid = pvid })
+    → Drives d (driven old.dom old.count kept) (record t { vlans = vlans; pvid = pvid })
 drives_vlan d t vlans pvid p v on plain port old mid kept before change is_kept routers_is groups_is writes_vlan mid_rest writes_port rest port_is = record {
   rows = stands d old.dom _ kept.shadow kept.joined kept.tables is_kept.settled
       (λ vid in_range. ap (λ (r : Rows). vlan_at r vid) rest ∙ vlans_switched t _ p v on plain _ old.rows mid before.rows.vlans change refl writes_vlan vid in_range)
@@ -216,7 +216,7 @@ drives_switches d t queriers snoop stp routers old new traps_now control_now bef
 -- The members of a group change, and its row.
 pub drives_groups : (d : Domains) (t : Table) (groups : List groups.Membership) (old : Driven) (kept : Kept) → Drives d old t → IsKept kept → kept.shadow.routers ≡ old.routers
     → kept.tables ≡ record old.rows { groups = kept.tables.groups } → kept.groups ≡ groups
-    → Drives d (driven old.dom kept) (record t { groups = groups })
+    → Drives d (driven old.dom old.count kept) (record t { groups = groups })
 drives_groups d t groups old kept before is_kept routers_is rest is = record {
   rows = stands d old.dom _ kept.shadow kept.joined kept.tables is_kept.settled
       (λ vid in_range. ap (λ (r : Rows). vlan_at r vid) rest ∙ before.rows.vlans vid in_range)

@@ -21,6 +21,8 @@ use Rattle.chip_driver.specs.declared.kept.Kept.{Kept}
 pub record Driven : Type 0 where
   -- the domain of the chip
   pub dom : ℕ
+  -- how many deferred changes it has applied
+  pub count : ℕ
   pub rows : Rows
   -- the ports behind which a multicast router is
   pub routers : List ℕ
@@ -28,8 +30,8 @@ pub record Driven : Type 0 where
   pub groups : List Membership
 
 -- what they see of what is kept for the chip of the domain
-abbrev pub driven : ℕ → Kept → Driven
-driven dom kept = record { dom = dom; rows = kept.tables; routers = kept.shadow.routers; groups = kept.groups }
+abbrev pub driven : ℕ → ℕ → Kept → Driven
+driven dom count kept = record { dom = dom; count = count; rows = kept.tables; routers = kept.shadow.routers; groups = kept.groups }
 
 abbrev pub KeepsRouters : List ℕ → Table → Type 0
 KeepsRouters routers t = (q : ℕ) → q < port_places → has_number routers q ≡ has nat_cmp t.routers q

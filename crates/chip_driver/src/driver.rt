@@ -1,8 +1,9 @@
 //! The driver.
-ghost use Rattle.std.specs.Prelude.{◌≡◌, ◌≢◌, ◌≤◌, true, IfOk, IsTrue};
+ghost use Rattle.std.specs.Prelude.{◌≡◌, ◌≢◌, ◌+◌, ◌<◌, ◌≤◌, true, IfOk, IsTrue};
 ghost use Rattle.br_model.specs.Table.Change.{deferred};
 ghost use Rattle.br_model.specs.Table.Domains.{Domains as DomainsValue, software};
 ghost use Rattle.br_model.specs.Table.GroupPairs.{has_room};
+ghost use Rattle.br_model.specs.Table.Limits.{most_changes};
 ghost use Rattle.br_model.specs.Table.Table.{Table, apply, start};
 ghost use Rattle.br_model.specs.declared.change.Change.TheVariants as changes;
 ghost use Rattle.br_model.specs.declared.domains.Edition.TheVariants.{Two};
@@ -28,6 +29,7 @@ use vlan_groups::joined::Joined;
 #[derive(Drop)]
 pub struct Driver {
     dom: Dom,
+    count: u32,
     kept: Kept,
 }
 
@@ -37,7 +39,7 @@ impl Model for Driver {
 
     ghost Value = { Driven };
 
-    ghost view = { λ d. driven d.dom d.kept };
+    ghost view = { λ d. driven d.dom d.count d.kept };
 
     ghost invariant = { λ d. IsKept d.kept };
 }
@@ -47,6 +49,7 @@ impl Driver {
     pub fn make(alloc: Global, dom: Dom, d: &Domains) -> Result<Driver, NoMemory>
         requires { dom ≢ software }
         ensures domain { IfOk result (λ x. x.dom ≡ dom) }
+        ensures count { IfOk result (λ x. x.count ≡ 0) }
         ensures start { IfOk result (λ x. Drives d.now x start) }
     {
         let joined = Joined::make(alloc)?;
@@ -66,7 +69,11 @@ impl Driver {
             groups,
         };
         kept.write_member(Port::HOST, Vid::DEFAULT, true, true);
-        Ok(Driver { dom, kept })
+        Ok(Driver {
+            dom,
+            count: 0,
+            kept,
+        })
     }
 
     /// The chip's domain.
@@ -76,6 +83,13 @@ impl Driver {
         self.dom
     }
 
+    /// How many deferred changes it has applied, which is the ticket of the next one.
+    pub fn count(&self) -> u32
+        ensures { result ≡ self.now.count }
+    {
+        self.count
+    }
+
     /// The chip's rows.
     pub fn tables(&self) -> &Tables
         ensures { result.now ≡ self.now.rows }
@@ -83,14 +97,28 @@ impl Driver {
         &self.kept.tables
     }
 
-    /// Applies an update of the queue.
+    /// Applies an update of the queue, the next one by its ticket: so none comes twice, or out of order.
     pub fn address(&mut self, u: &Update)
         requires taken { IsTaken self.old u.now.change }
         requires queued { deferred Two u.now.change ≡ true }
+        requires next { u.now.ticket ≡ self.old.count }
+        requires count { self.old.count < most_changes }
         ensures drives { (d : DomainsValue) (t : Table) → Drives d self.old t → Drives d self.new (apply t u.now.change) }
         ensures dom { self.new.dom ≡ self.old.dom }
+        ensures count { self.new.count ≡ self.old.count + 1 }
     {
-        match u.change {
+        self.apply(&u.change);
+        self.count += 1;
+    }
+
+    fn apply(&mut self, change: &Change)
+        requires taken { IsTaken self.old change.now }
+        requires queued { deferred Two change.now ≡ true }
+        ensures drives { (d : DomainsValue) (t : Table) → Drives d self.old t → Drives d self.new (apply t change.now) }
+        ensures dom { self.new.dom ≡ self.old.dom }
+        ensures count { self.new.count ≡ self.old.count }
+    {
+        match *change {
             Change::AddrPut {
                 vid,
                 mac,
@@ -108,6 +136,7 @@ impl Driver {
         requires { IsTaken self.old (changes.AddrPut v m p kind) }
         ensures drives { (d : DomainsValue) (t : Table) → Drives d self.old t → Drives d self.new (apply t (changes.AddrPut v m p kind)) }
         ensures dom { self.new.dom ≡ self.old.dom }
+        ensures count { self.new.count ≡ self.old.count }
     {
         self.kept
             .tables
@@ -117,6 +146,7 @@ impl Driver {
     fn del_address(&mut self, v: Vid, m: Mac)
         ensures drives { (d : DomainsValue) (t : Table) → Drives d self.old t → Drives d self.new (apply t (changes.AddrDel v m)) }
         ensures dom { self.new.dom ≡ self.old.dom }
+        ensures count { self.new.count ≡ self.old.count }
     {
         self.kept.tables.set_address(v, m, None);
     }
@@ -125,6 +155,7 @@ impl Driver {
         requires { state ≤ 4 }
         ensures drives { (d : DomainsValue) (t : Table) → Drives d self.old t → Drives d self.new (apply t (changes.SetState p state)) }
         ensures dom { self.new.dom ≡ self.old.dom }
+        ensures count { self.new.count ≡ self.old.count }
     {
         let mut row = self.kept.tables.port(p);
         row.state = state;
@@ -134,6 +165,7 @@ impl Driver {
     fn set_flags(&mut self, p: Port, flags: Flags)
         ensures drives { (d : DomainsValue) (t : Table) → Drives d self.old t → Drives d self.new (apply t (changes.SetFlags p flags)) }
         ensures dom { self.new.dom ≡ self.old.dom }
+        ensures count { self.new.count ≡ self.old.count }
     {
         let mut row = self.kept.tables.port(p);
         row.flags = flags;
@@ -143,6 +175,7 @@ impl Driver {
     fn port_up(&mut self, p: Port)
         ensures drives { (d : DomainsValue) (t : Table) → Drives d self.old t → Drives d self.new (apply t (changes.PortUp p)) }
         ensures dom { self.new.dom ≡ self.old.dom }
+        ensures count { self.new.count ≡ self.old.count }
     {
         let mut row = self.kept.tables.port(p);
         row.up = true;
@@ -154,6 +187,7 @@ impl Driver {
     fn port_down(&mut self, p: Port)
         ensures drives { (d : DomainsValue) (t : Table) → Drives d self.old t → Drives d self.new (apply t (changes.PortDown p)) }
         ensures dom { self.new.dom ≡ self.old.dom }
+        ensures count { self.new.count ≡ self.old.count }
     {
         let mut row = self.kept.tables.port(p);
         row.up = false;
@@ -165,6 +199,7 @@ impl Driver {
     fn add_vlan(&mut self, p: Port, v: Vid, untagged: bool, pvid: bool)
         ensures drives { (d : DomainsValue) (t : Table) → Drives d self.old t → Drives d self.new (apply t (changes.VlanAdd p v untagged pvid)) }
         ensures dom { self.new.dom ≡ self.old.dom }
+        ensures count { self.new.count ≡ self.old.count }
     {
         self.kept.write_member(p, v, true, untagged);
         let pvid = pvids::pvid_with(self.kept.tables.port(p).pvid, v, pvid);
@@ -174,6 +209,7 @@ impl Driver {
     fn del_vlan(&mut self, p: Port, v: Vid)
         ensures drives { (d : DomainsValue) (t : Table) → Drives d self.old t → Drives d self.new (apply t (changes.VlanDel p v)) }
         ensures dom { self.new.dom ≡ self.old.dom }
+        ensures count { self.new.count ≡ self.old.count }
     {
         self.kept.write_member(p, v, false, false);
         let pvid = pvids::pvid_without(self.kept.tables.port(p).pvid, v);
@@ -184,6 +220,7 @@ impl Driver {
         requires { IsTrue (has_room self.old.groups v g) }
         ensures drives { (d : DomainsValue) (t : Table) → Drives d self.old t → Drives d self.new (apply t (changes.GroupJoin p v g)) }
         ensures dom { self.new.dom ≡ self.old.dom }
+        ensures count { self.new.count ≡ self.old.count }
     {
         self.kept.join(v, g, p);
     }
@@ -191,6 +228,7 @@ impl Driver {
     fn part_group(&mut self, p: Port, v: Vid, g: Group)
         ensures drives { (d : DomainsValue) (t : Table) → Drives d self.old t → Drives d self.new (apply t (changes.GroupPart p v g)) }
         ensures dom { self.new.dom ≡ self.old.dom }
+        ensures count { self.new.count ≡ self.old.count }
     {
         self.kept.part(v, g, p);
     }
@@ -198,6 +236,7 @@ impl Driver {
     fn set_router(&mut self, p: Port, on: bool)
         ensures drives { (d : DomainsValue) (t : Table) → Drives d self.old t → Drives d self.new (apply t (changes.Router p on)) }
         ensures dom { self.new.dom ≡ self.old.dom }
+        ensures count { self.new.count ≡ self.old.count }
     {
         self.kept.write_router(p, on);
     }
@@ -205,6 +244,7 @@ impl Driver {
     fn set_querier(&mut self, six: bool, on: bool)
         ensures drives { (d : DomainsValue) (t : Table) → Drives d self.old t → Drives d self.new (apply t (changes.Querier six on)) }
         ensures dom { self.new.dom ≡ self.old.dom }
+        ensures count { self.new.count ≡ self.old.count }
     {
         let control = switches::with_querier(self.kept.tables.control(), six, on);
         self.kept.tables.set_control(control);
@@ -213,6 +253,7 @@ impl Driver {
     fn set_snoop(&mut self, on: bool)
         ensures drives { (d : DomainsValue) (t : Table) → Drives d self.old t → Drives d self.new (apply t (changes.Snoop on)) }
         ensures dom { self.new.dom ≡ self.old.dom }
+        ensures count { self.new.count ≡ self.old.count }
     {
         let mut control = self.kept.tables.control();
         control.snooping = on;
@@ -223,6 +264,7 @@ impl Driver {
     fn set_stp(&mut self, on: bool)
         ensures drives { (d : DomainsValue) (t : Table) → Drives d self.old t → Drives d self.new (apply t (changes.Stp on)) }
         ensures dom { self.new.dom ≡ self.old.dom }
+        ensures count { self.new.count ≡ self.old.count }
     {
         let mut control = self.kept.tables.control();
         control.tree = on;
@@ -244,6 +286,8 @@ fn address_row(port: Port, kind: Kind) -> AddressRow
 
 impl SwitchOps for Driver {
     ghost domain = { λ x. x.dom };
+
+    ghost count = { λ x. x.count };
 
     ghost means = { Drives };
 

@@ -26,11 +26,10 @@ use std::alloc::Global;
 use std::marker::Model;
 use switchdev_notify::{deliver, notice_of};
 
-/// The switch chip of a domain: its driver, how many deferred changes it has applied, and what it reports.
+/// The switch chip of a domain: its driver, which counts the deferred changes that it has applied, and what it reports.
 #[derive(Drop)]
 pub struct Chip {
     driver: Driver,
-    count: u32,
     reports: Reports,
 }
 
@@ -40,7 +39,7 @@ impl Model for Chip {
 
     ghost Value = { ChipState };
 
-    ghost view = { λ c. record { driver = c.driver; chip = chip_of c.driver.dom c.count c.reports } };
+    ghost view = { λ c. record { driver = c.driver; chip = chip_of c.driver.dom c.driver.count c.reports } };
 }
 
 /// Tells the driver of a change, unless it is a deferred one.
@@ -49,6 +48,7 @@ fn tell(driver: &mut Driver, change: &Change, edition: Edition)
     ensures told { (domains : DomainsValue) (t : Table) → Drives domains driver.old t
         → Drives domains driver.new (if deferred edition change.now then t else apply t change.now) }
     ensures dom { driver.new.dom ≡ driver.old.dom }
+    ensures count { driver.new.count ≡ driver.old.count }
 {
     deliver(driver, &notice_of(change), edition);
 }
@@ -61,6 +61,7 @@ fn tell_from(driver: &mut Driver, history: &[Change], from: usize, edition: Edit
     ensures told { (domains : DomainsValue) (k : ℕ) → k ≤ deferred_count edition (take from history.now)
         → Drives domains driver.old (table (cut edition (take from history.now) k)) → Drives domains driver.new (table (cut edition history.now k)) }
     ensures dom { driver.new.dom ≡ driver.old.dom }
+    ensures count { driver.new.count ≡ driver.old.count }
 {
     for place in from..history.len() {
         tell(driver, &history[place], edition);
@@ -76,7 +77,6 @@ impl Chip {
     {
         Ok(Chip {
             driver: Driver::make(alloc, dom, domains)?,
-            count: 0,
             reports: Reports::make(alloc)?,
         })
     }
@@ -99,7 +99,7 @@ impl Chip {
     pub fn count(&self) -> u32
         ensures { result ≡ self.now.chip.count }
     {
-        self.count
+        self.driver.count()
     }
 
     /// Follows the changes that the history got behind its first `from` ones: the driver is told of the synchronous ones, and
@@ -118,6 +118,7 @@ impl Chip {
     pub fn turn(&mut self, update: &Update) -> Result<(), NoMemory>
         requires taken { IsTaken self.old.driver update.now.change }
         requires queued { deferred Two update.now.change ≡ true }
+        requires next { update.now.ticket ≡ self.old.chip.count }
         requires count { self.old.chip.count < most_changes }
         ensures ok { OnOk result (self.new.chip ≡ applies self.old.chip update.now.change) }
         ensures rows { OnOk result ((domains : DomainsValue) (t : Table) → Drives domains self.old.driver t
@@ -127,7 +128,6 @@ impl Chip {
     {
         hit(&mut self.reports, entry_put(&update.change))?;
         self.driver.address(update);
-        self.count += 1;
         Ok(())
     }
 
@@ -137,7 +137,7 @@ impl Chip {
         ensures { (edition : EditionValue) → updates.now ≡ places edition history.now
             → result ≡ slice_get (updates_of edition history.now) self.now.chip.count }
     {
-        updates.get(history, self.count)
+        updates.get(history, self.driver.count())
     }
 
     /// Notes what a frame at the port leaves: the station that it would teach, and the entry that it hits.

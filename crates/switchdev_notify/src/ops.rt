@@ -13,11 +13,14 @@ use br_model::domains::Edition;
 /// A switch driver. The kernel's drivers answer a port's notifications by the functions that they pass to
 /// `switchdev_handle_port_obj_add`, `switchdev_handle_port_obj_del` and `switchdev_handle_port_attr_set`.
 ///
-/// These may refuse. Here a driver says beforehand what it `takes`. One that says nothing of its three ghost members takes any change, and
+/// These may refuse. Here a driver says beforehand what it `takes`. One that says nothing of its ghost members takes any change, and
 /// claims nothing of what it does.
 pub trait SwitchOps {
     /// The domain of the driver's chip, which stays.
     ghost domain: { Self → ℕ } = { λ driver. first_chip_domain };
+
+    /// How many deferred changes it has applied. These come by a call of its own, and the ones below leave the number.
+    ghost count: { Self → ℕ } = { λ driver. 0 };
 
     /// Whether the driver has a chip with these domains do what the table says.
     ghost means: { Domains → Self → Table → Type 0 } = { λ domains driver table. Unit {0} };
@@ -29,19 +32,22 @@ pub trait SwitchOps {
     fn obj_add(&mut self, o: &Object)
         requires { takes self.old (change_added o.now) }
         ensures told { (d : Domains) (t : Table) → means d self.old t → means d self.new (apply t (change_added o.now)) }
-        ensures domain { domain self.new ≡ domain self.old };
+        ensures domain { domain self.new ≡ domain self.old }
+        ensures count { count self.new ≡ count self.old };
 
     /// Answers `SWITCHDEV_PORT_OBJ_DEL`.
     fn obj_del(&mut self, o: &Object)
         requires { takes self.old (change_removed o.now) }
         ensures told { (d : Domains) (t : Table) → means d self.old t → means d self.new (apply t (change_removed o.now)) }
-        ensures domain { domain self.new ≡ domain self.old };
+        ensures domain { domain self.new ≡ domain self.old }
+        ensures count { count self.new ≡ count self.old };
 
     /// Answers `SWITCHDEV_PORT_ATTR_SET`.
     fn attr_set(&mut self, a: &Attribute)
         requires { takes self.old (change_of_attribute a.now) }
         ensures told { (d : Domains) (t : Table) → means d self.old t → means d self.new (apply t (change_of_attribute a.now)) }
-        ensures domain { domain self.new ≡ domain self.old };
+        ensures domain { domain self.new ≡ domain self.old }
+        ensures count { count self.new ≡ count self.old };
 }
 
 /// Tells a driver of a change, as `switchdev_port_obj_add`, `switchdev_port_obj_del` and `switchdev_port_attr_set` do. What is
@@ -53,6 +59,7 @@ pub fn deliver<D: SwitchOps>(d: &mut D, n: &Notice, edition: Edition)
         → D.means domains d.old (table list) → D.means domains d.new (table (list ++ synchronous_of edition (c ∷ []))) }
     ensures deferred { told_in edition n.now ≡ None → d.new ≡ d.old }
     ensures domain { D.domain d.new ≡ D.domain d.old }
+    ensures count { D.count d.new ≡ D.count d.old }
 {
     match n {
         Notice::ObjAdd(object) => {

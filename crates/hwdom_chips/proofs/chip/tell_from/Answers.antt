@@ -9,7 +9,7 @@ use Rattle.hwdom_chips.proofs.Following.{taken_now, more_deferred, table_more}
 use Rattle.hwdom_chips.proofs.chip.tell_from.Goals as goal
 
 pub loop-place-init : goal.loop-place-init
-loop-place-init c = (refl, λ domains k n before. (n, before))
+loop-place-init c = (refl, λ domains k n before. (n, before), refl)
 
 pub tell-requires : goal.tell-requires
 tell-requires c now =
@@ -34,6 +34,7 @@ loop-place-preserved c = (
         subst (Drives domains c.tell.new.driver) (sym (table_more e h c.loop-place.place d k c.loop-place-test.true here.0))
             (subst (λ (x : Change). Drives domains c.tell.new.driver (if deferred e x then t else apply t x)) c.index-history-place.is (c.tell.ensures.told domains t here.1)),
       ),
+  c.tell.ensures.count ∙ c.loop-place.invariant.2,
 )
 
 pub returns-clause-told : goal.returns-clause-told
@@ -43,3 +44,6 @@ returns-clause-told c domains k n before =
 
 pub returns-clause-dom : goal.returns-clause-dom
 returns-clause-dom c = c.loop-place.invariant.0
+
+pub returns-clause-count : goal.returns-clause-count
+returns-clause-count c = c.loop-place.invariant.2

@@ -10,3 +10,4 @@ invariant-loop-place l =
     (l.driver.dom ≡ l.initial.driver.dom)
     × ((domains : Domains) (k : ℕ) → k ≤ deferred_count l.edition (take l.from l.history) → Drives domains l.initial.driver (table (cut l.edition (take l.from l.history) k))
     → (k ≤ deferred_count l.edition (take l.place l.history)) × Drives domains l.driver (table (cut l.edition (take l.place l.history) k)))
+    × (l.driver.count ≡ l.initial.driver.count)

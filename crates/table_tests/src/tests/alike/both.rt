@@ -8,6 +8,7 @@ use crate::tests::common::assert_same;
 use br_model::change::{Change, FORWARDING, Update};
 use br_model::domains::{Domains, Edition};
 use br_model::frame::{Class, Head, McastMsg};
+use br_model::limits::MOST_CHANGES;
 use br_model::numbers::{Dom, Port, Vid};
 use chip_driver::Driver;
 use chip_pipeline::pass;
@@ -170,12 +171,13 @@ impl Both {
 
     /// Both make the change, which the chip gets as an update, where it fits.
     fn take(&mut self, change: &Change) {
-        if !change.is_deferred(Edition::Two) {
+        let ticket = self.driver.count();
+        if !change.is_deferred(Edition::Two) || ticket >= MOST_CHANGES {
             return;
         }
         if self.soft.fits(change) {
             let update = Update {
-                ticket: 0,
+                ticket,
                 change: *change,
             };
             self.driver.address(&update);

@@ -16,7 +16,7 @@ pub returns-clause-drives : goal.returns-clause-drives
 returns-clause-drives c d t before =
     let p = c.args.p in
     let v = c.args.v in
-    let old : Drives d (driven c.self.inside.dom c.self.inside.kept) t = subst (λ r. Drives d r t) (sym c.self.view_is) before in
+    let old : Drives d (driven c.self.inside.dom c.self.inside.count c.self.inside.kept) t = subst (λ r. Drives d r t) (sym c.self.view_is) before in
     let change : Membership t (apply t (VlanDel p v)) p v false false = record {
       member = λ vid q. member_left t p v vid q;
       untagged = λ vid q. untagged_left t p v vid q;
@@ -24,7 +24,7 @@ returns-clause-drives c d t before =
     } in
     let port : port_at c.write_member.new.self.tables p ≡ port_wanted d c.self.inside.dom t p = ap (λ r. port_at r p) c.write_member.ensures.rest ∙ old.rows.ports p c.write_pvid.ensures.below in
     drives_vlan d t (without pair_cmp t.vlans (v, p)) (without_pvid t.pvid p v) p v false false _
-    (driven c.self.inside.dom c.self.inside.kept) _ c.write_pvid.new.self old change c.write_pvid.ensures.kept
+    (driven c.self.inside.dom c.self.inside.count c.self.inside.kept) _ c.write_pvid.new.self old change c.write_pvid.ensures.kept
     (ap (λ (s : Shadow). s.routers) (c.write_pvid.ensures.shadow ∙ c.write_member.ensures.shadow)) (c.write_pvid.ensures.members ∙ c.write_member.ensures.members)
     c.write_member.ensures.row c.write_member.ensures.rest c.write_pvid.ensures.row c.write_pvid.ensures.rest
     (ap (λ (r : PortRow). record r { pvid = c.pvid_without-pvid.result }) port

@@ -9,6 +9,6 @@ use Rattle.chip_driver.proofs.driver.Driver.part_group.Goals as goal
 
 pub returns-clause-drives : goal.returns-clause-drives
 returns-clause-drives c d t before =
-    let old : Drives d (driven c.self.inside.dom c.self.inside.kept) t = subst (λ r. Drives d r t) (sym c.self.view_is) before in
-    drives_groups d t _ (driven c.self.inside.dom c.self.inside.kept) c.part.new.self old c.part.ensures.kept (ap (λ (s : Shadow). s.routers) c.part.ensures.shadow) c.part.ensures.rest
+    let old : Drives d (driven c.self.inside.dom c.self.inside.count c.self.inside.kept) t = subst (λ r. Drives d r t) (sym c.self.view_is) before in
+    drives_groups d t _ (driven c.self.inside.dom c.self.inside.count c.self.inside.kept) c.part.new.self old c.part.ensures.kept (ap (λ (s : Shadow). s.routers) c.part.ensures.shadow) c.part.ensures.rest
     (c.part.ensures.members ∙ ap (λ (ms : List Membership). parted membership_cmp ms (c.args.v, c.args.g, c.args.p)) old.groups)

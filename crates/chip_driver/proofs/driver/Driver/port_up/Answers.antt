@@ -8,9 +8,9 @@ use Rattle.chip_driver.proofs.driver.Driver.port_up.Goals as goal
 
 pub returns-clause-drives : goal.returns-clause-drives
 returns-clause-drives c d t before =
-    let old : Drives d (driven c.self.inside.dom c.self.inside.kept) t = subst (λ r. Drives d r t) (sym c.self.view_is) before in
+    let old : Drives d (driven c.self.inside.dom c.self.inside.count c.self.inside.kept) t = subst (λ r. Drives d r t) (sym c.self.view_is) before in
     drives_port d t (joined nat_cmp t.up c.args.p) (put nat_cmp t.flags c.args.p default_flags) (put nat_cmp t.state c.args.p disabled) c.args.p _
-    (driven c.self.inside.dom c.self.inside.kept) c.write_port.new.self old
+    (driven c.self.inside.dom c.self.inside.count c.self.inside.kept) c.write_port.new.self old
     c.write_port.ensures.kept c.write_port.ensures.routers (c.write_port.ensures.members) c.write_port.ensures.row c.write_port.ensures.rest
     (written_up d c.self.inside.dom t c.args.p c.port-row.result (c.port-row.ensures ∙ old.rows.ports c.args.p c.write_port.ensures.below))
     (λ q other. unwritten_up d c.self.inside.dom t c.args.p q other)

@@ -15,8 +15,8 @@ set_address-requires c =
 
 pub returns-clause-drives : goal.returns-clause-drives
 returns-clause-drives c d t before =
-    let old : Drives d (driven c.self.inside.dom c.self.inside.kept) t = subst (λ r. Drives d r t) (sym c.self.view_is) before in
-    drives_addresses d t (put pair_cmp t.addr (c.args.v, c.args.m) (c.args.p, c.args.kind)) (driven c.self.inside.dom c.self.inside.kept) _ _ old c.set_address.ensures.rest
+    let old : Drives d (driven c.self.inside.dom c.self.inside.count c.self.inside.kept) t = subst (λ r. Drives d r t) (sym c.self.view_is) before in
+    drives_addresses d t (put pair_cmp t.addr (c.args.v, c.args.m) (c.args.p, c.args.kind)) (driven c.self.inside.dom c.self.inside.count c.self.inside.kept) _ _ old c.set_address.ensures.rest
     (c.set_address.ensures.row ∙ ap (λ row. addresses_with c.self.inside.kept.tables c.args.v c.args.m (Some row)) c.address_row.ensures
     ∙ ap (λ (rows : List ((ℕ × ℕ) × AddressRow)). put pair_cmp rows (c.args.v, c.args.m) (address_wanted (c.args.p, c.args.kind))) old.rows.addresses
     ∙ sym (mapped-put pair_cmp address_wanted t.addr (c.args.v, c.args.m) (c.args.p, c.args.kind)))

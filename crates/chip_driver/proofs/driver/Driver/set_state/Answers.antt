@@ -7,8 +7,8 @@ use Rattle.chip_driver.proofs.driver.Driver.set_state.Goals as goal
 
 pub returns-clause-drives : goal.returns-clause-drives
 returns-clause-drives c d t before =
-    let old : Drives d (driven c.self.inside.dom c.self.inside.kept) t = subst (λ r. Drives d r t) (sym c.self.view_is) before in
-    drives_port d t t.up t.flags (put nat_cmp t.state c.args.p c.args.state) c.args.p _ (driven c.self.inside.dom c.self.inside.kept) c.write_port.new.self old
+    let old : Drives d (driven c.self.inside.dom c.self.inside.count c.self.inside.kept) t = subst (λ r. Drives d r t) (sym c.self.view_is) before in
+    drives_port d t t.up t.flags (put nat_cmp t.state c.args.p c.args.state) c.args.p _ (driven c.self.inside.dom c.self.inside.count c.self.inside.kept) c.write_port.new.self old
     c.write_port.ensures.kept c.write_port.ensures.routers (c.write_port.ensures.members) c.write_port.ensures.row c.write_port.ensures.rest
     (written_state d c.self.inside.dom t c.args.p c.port-row.result (c.port-row.ensures ∙ old.rows.ports c.args.p c.write_port.ensures.below) c.args.state)
     (λ q other. unwritten_state d c.self.inside.dom t c.args.p q other c.args.state)

@@ -40,6 +40,15 @@ turn-requires-clause-queued c =
     c.args.update.now c.self.view_is c.place-place.ensures c.requires.next in
     queued_next e b.history old.chip.count c.args.update.now.change (updates-named e b.history old.chip.count c.args.update.now next).1
 
+pub turn-requires-clause-next : goal.turn-requires-clause-next
+turn-requires-clause-next c =
+    let b = c.self.inside.bridge in
+    let e = b.setup.domains.edition in
+    let old = c.at_mut.result.now in
+    let next = next_here b c.self.inside.chips c.self.inside.updates c.self.inside.board c.self.invariant c.place-place.result old old c.at_mut.ensures.value c.args.self.now c.args.d
+    c.args.update.now c.self.view_is c.place-place.ensures c.requires.next in
+    (updates-named e b.history old.chip.count c.args.update.now next).0
+
 pub turn-requires-clause-count : goal.turn-requires-clause-count
 turn-requires-clause-count c =
     let b = c.self.inside.bridge in
