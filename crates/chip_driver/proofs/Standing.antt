@@ -197,7 +197,7 @@ drives_vlan d t vlans pvid p v on plain port old mid kept before change is_kept 
 pub drives_switches : (d : Domains) (t : Table) (queriers : List ℕ) (snoop stp : Bool) (routers : List ℕ) (old : Driven) (new : Rows) (traps_now control_now : List ℕ) → Drives d old t
     → new ≡ record old.rows { traps = traps_now; control = control_now } → routers ≡ old.routers
     → TrapsStand new (record t { queriers = queriers; snoop = snoop; stp = stp }) → ControlStands new (record t { queriers = queriers; snoop = snoop; stp = stp })
-    → Drives d (record { dom = old.dom; rows = new; routers = routers; groups = old.groups }) (record t { queriers = queriers; snoop = snoop; stp = stp })
+    → Drives d (record { dom = old.dom; count = old.count; rows = new; routers = routers; groups = old.groups }) (record t { queriers = queriers; snoop = snoop; stp = stp })
 drives_switches d t queriers snoop stp routers old new traps_now control_now before rest routers_is traps control = record {
   rows = record {
     vlans = λ vid in_range. ap (λ (r : Rows). vlan_at r vid) rest ∙ before.rows.vlans vid in_range;

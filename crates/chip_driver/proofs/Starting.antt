@@ -218,7 +218,7 @@ pub drives_start : (d : Domains) (dom : ℕ) (own : List ℕ) (s : Shadow) (join
     → own ≡ ports_in d dom → s.routers ≡ []
     → Settled s joined new → WritesVlan rows new 1 (switched_row (vlan_at rows 1) host true true)
     → IsRemade (record rows { vlans = new.vlans }) new
-    → groups ≡ [] → GroupsFollow s groups new → Drives d (record { dom = dom; rows = new; routers = s.routers; groups = groups }) start
+    → groups ≡ [] → GroupsFollow s groups new → Drives d (record { dom = dom; count = 0; rows = new; routers = s.routers; groups = groups }) start
 drives_start d dom own s joined groups blank marked trapped rows new is_blank marks traps rest control own_is routers_is settled writes new_rest groups_is follow = record {
   rows = stands d dom start s joined new settled vlans
       (λ q low.
