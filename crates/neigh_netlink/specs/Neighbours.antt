@@ -1,7 +1,7 @@
 -- The table that messages give: where each address of a VLAN is, how it came there, and whether a chip has it.
 -- Source: rtnetlink(7) (RTM_NEWNEIGH adds or replaces an entry, RTM_DELNEIGH takes it out), linux/neighbour.h (NTF_OFFLOADED); what is
 -- refused, and the limit, is this profile's.
-use Rattle.std.specs.Prelude.{ℕ, ◌==◌, nat_lt, Bool, true, false, ◌&&◌, ◌||◌, if◌then◌else◌, List, [], length, map}
+use Rattle.std.specs.Prelude.{ℕ, ◌==◌, nat_lt, Bool, false, ◌&&◌, ◌||◌, if◌then◌else◌, List, [], length, map}
 use Rattle.std.specs.List.{fold}
 use Rattle.std.specs.declared.option.Option.{Option}
 use Rattle.std.specs.declared.option.Option.TheVariants.{None, Some}
