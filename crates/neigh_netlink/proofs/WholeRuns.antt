@@ -18,28 +18,25 @@ use Rattle.br_model.specs.declared.change.Change.{Change}
 use Rattle.br_model.specs.declared.change.Change.TheVariants.{AddrPut, AddrDel}
 use Rattle.br_model.specs.declared.change.Kind.{Kind}
 use Rattle.br_model.specs.declared.domains.Edition.{Edition}
-use Rattle.br_model.specs.declared.frame.Class.{Class}
-use Rattle.br_model.specs.declared.frame.FrameFault.{FrameFault}
 use Rattle.br_model.specs.declared.frame.FrameFault.TheVariants.{Short, Long, TagShort}
 use Rattle.br_model.specs.declared.frame.Head.{Head}
 use Rattle.br_model.specs.declared.steps.Event.{Event}
 use Rattle.br_model.specs.declared.steps.Event.TheVariants as events
 use Rattle.br_model.specs.declared.steps.Refusal.{Refusal}
-use Rattle.br_model.specs.declared.steps.Refusal.TheVariants.{NoSuchPoint}
 use Rattle.br_model.specs.declared.steps.Step.{Step}
-use Rattle.br_model.specs.declared.steps.Step.TheVariants.{Rx, Cmd, Now, Serve, Hold, Post, Turn, Report, Sweep, Publish}
+use Rattle.br_model.specs.declared.transcript.Line.{Line}
+use Rattle.br_model.specs.declared.steps.Step.TheVariants.{Turn}
 use Rattle.br_model.specs.Control.Learning.{Address, Triple, is_news, teach}
 use Rattle.br_model.specs.Control.Reaction.{Reaction}
 use Rattle.br_model.specs.Data.Maps.{pair_cmp, get}
 use Rattle.br_model.specs.Data.Numbers.{is_multicast}
-use Rattle.br_model.specs.Forward.Shares.{mark_of}
 use Rattle.br_model.specs.Plane.Chip.{Chip, applies, first_chip, hit_asked, hit_of, hits_entry, notes, offered, offers, report, report_of, same_triple}
-use Rattle.br_model.specs.Plane.ChipSteps.{reports, sweeps, swept, tells, turns, turns_to}
-use Rattle.br_model.specs.Plane.Entering.{chip_of, class_of, enters_as, enters_by, goes_on, waits}
+use Rattle.br_model.specs.Plane.ChipSteps.{reports}
+use Rattle.br_model.specs.Plane.Entering.{waits}
 use Rattle.br_model.specs.Plane.Runs.{run}
-use Rattle.br_model.specs.Plane.Serving.{held_with, holds, is_point, lets_go, posts, posts_at, posts_held, serves}
+use Rattle.br_model.specs.Plane.Serving.{holds, lets_go}
 use Rattle.br_model.specs.Plane.Steps.{world_step}
-use Rattle.br_model.specs.Plane.World.{World, Holding, Stepped, Waiting, answered, chip_at, first_world, next_of, reacts, refused, table_of_chip, with_chip}
+use Rattle.br_model.specs.Plane.World.{World, Holding, Stepped, Waiting, answered, chip_at, first_world, next_of, reacts, table_of_chip, with_chip}
 use Rattle.br_model.specs.Table.Change.{asks, deferred}
 use Rattle.br_model.specs.Table.Cut.{deferred_count, deferred_of}
 use Rattle.br_model.specs.Table.DomainPorts.{is_in_domain}
@@ -61,7 +58,8 @@ use Rattle.br_model.proofs.Plane.Growing.{few-deferred}
 use Rattle.br_model.proofs.Plane.Chips.{chip-each, chip_of-at, put-all}
 use Rattle.br_model.proofs.Plane.Kept.{first-world, step-world}
 use Rattle.br_model.proofs.Plane.Stays.{step-accepts}
-use Rattle.br_model.proofs.Plane.Waiting.{goes_on-either, waits-either}
+use Rattle.br_model.proofs.Plane.StepEnds.{by_chip, by_command, by_moment, by_post, by_report, by_serve, by_software, by_sweep, does-ends, Ends, ends_answered, ends_applied, ends_entered}
+use Rattle.br_model.proofs.Plane.StepEnds.{ends_held, ends_idle, ends_published, ends_refused, ends_sent, ends_unread, Enters, finds_room, Joins, overruns, passes_by}
 use Rattle.br_model.proofs.Text.WrittenLines.{frame_shown}
 use Rattle.neigh_netlink.specs.declared.neigh.Neigh.{Neigh}
 use Rattle.neigh_netlink.specs.Follow.{Ended, follows}
@@ -186,28 +184,19 @@ chip-fine w c h k = record { changes = k.changes; waits = k.waits; holds = k.hol
 
 -- a frame enters
 
-waits-fine : (w : World) (f : Waiting) → has_source f ≡ true → FineWorld w → FineWorld (waits w f).0
-waits-fine w f h k =
-    let more : list_all has_source (w.waiting ++ f ∷ []) ≡ true = list_all-append has_source w.waiting (f ∷ []) ∙ and_from _ _ k.waits (and_from _ _ h refl) in
-    waits-either (λ s. FineWorld s.0) w f (record { changes = k.changes; waits = more; holds = k.holds; reports = k.reports }) k
+enters-kept : {w : World} {port : ℕ} {bytes : List ℕ} {head : Head} {chips : List Chip} {f : Waiting} {first : List Line} {b : Bool} → Enters w port bytes head chips f first b
+    → nat_lt head.src (2 ^ 48) ≡ true → All Reported w.chips → (has_source f ≡ true) × All Reported chips
+enters-kept (by_software on) small reports = (small, reports)
+enters-kept {w} {port} {bytes} {head} (by_chip c on) small reports =
+    let at = chip_of-at w (domain_of w.setup.domains port) c on in
+    let noted = notes-reported (table_of_chip w c) port head c small (chip-each Reported w.chips at.0 c reports at.2) in
+    (small, put-all Reported w.chips (notes (table_of_chip w c) port head c) reports noted)
 
-goes_on-fine : (c : Class) (w : World) (f : Waiting) → has_source f ≡ true → FineWorld w → FineWorld (goes_on c w f).0
-goes_on-fine c w f h k = goes_on-either (λ s. FineWorld s.0) c w f k (waits-fine w f h k)
-
-enters_by-fine : (w : World) (f : Waiting) (o : Option Chip) → chip_of w (domain_of w.setup.domains f.port) ≡ o → has_source f ≡ true → FineWorld w → FineWorld (enters_by w o f).0
-enters_by-fine w f None on h k = waits-fine w f h k
-enters_by-fine w f (Some c) on h k =
-    let at = chip_of-at w (domain_of w.setup.domains f.port) c on in
-    let noted = notes-reported (table_of_chip w c) f.port f.head c h (chip-each Reported w.chips at.0 c k.reports at.2) in
-    goes_on-fine (class_of w c f) (with_chip w (notes (table_of_chip w c) f.port f.head c)) (record f { mark = mark_of (class_of w c f) w.setup.domains f.port }) h
-    (chip-fine w (notes (table_of_chip w c) f.port f.head c) noted k)
-
-enters-fine : (w : World) (id port : ℕ) (bytes : List ℕ) (r : Result Head FrameFault) → frame bytes ≡ r → list_all is_byte (shown bytes) ≡ true → FineWorld w
-    → FineWorld (enters_as w id port bytes r).0
-enters-fine w id port bytes (Err why) e are k = k
-enters-fine w id port bytes (Ok head) e are k =
-    let f : Waiting = record { id = id; port = port; bytes = bytes; head = head; mark = None } in
-    enters_by-fine w f (chip_of w (domain_of w.setup.domains port)) refl (source-small bytes head e are) k
+joins-kept : {held : List Holding} {waiting after : List Waiting} {f : Waiting} {b : Bool} {last : List Line} → Joins held waiting f b after last
+    → has_source f ≡ true → list_all has_source waiting ≡ true → list_all has_source after ≡ true
+joins-kept passes_by h all = all
+joins-kept {held} {waiting} {after} {f} (finds_room room) h all = list_all-append has_source waiting (f ∷ []) ∙ and_from _ _ all (and_from _ _ h refl)
+joins-kept (overruns full) h all = all
 
 -- a held frame
 
@@ -219,18 +208,6 @@ find-all p q (x ∷ hs) h all e = by (p x) e (find-all p q hs h (second_so (q x)
     by true is later = ap q (sym (same_Some x h is)) ∙ first_so (q x) _ all
     by false is later = later is
 
-lets_go-fine : (w : World) (id : ℕ) → FineWorld w → FineWorld (lets_go w id)
-lets_go-fine w id k = record { changes = k.changes; waits = k.waits; holds = filter-all holds_source (λ (h : Holding). not (h.waiting.id == id)) w.held k.holds; reports = k.reports }
-
-holds-fine : (w : World) (fs : List Waiting) → list_all has_source fs ≡ true → FineWorld w → FineWorld (holds w fs).0
-holds-fine w [] h k = k
-holds-fine w (f ∷ later) h k = record {
-  changes = k.changes;
-  waits = second_so (has_source f) _ h;
-  holds = list_all-append holds_source w.held (record { waiting = f; floor = w.published } ∷ []) ∙ and_from _ _ k.holds (and_from _ _ (first_so (has_source f) _ h) refl);
-  reports = k.reports;
-}
-
 -- Steps.
 
 module _ (ports : List Entry) (all : are_declared ports ≡ true) where
@@ -241,64 +218,50 @@ module _ (ports : List Entry) (all : are_declared ports ≡ true) where
       by (Err why) fine = k
       by (Ok r) fine = record { changes = both-fine after.history r.changes l.changes fine; waits = l.waits; holds = l.holds; reports = l.reports }
 
-  posts-fine : (w : World) (f : Waiting) (point : ℕ) → has_source f ≡ true → FineWorld w → FineWorld (posts w f point).0
-  posts-fine w f point h k = answered-fine w w (events.Sight f.port f.bytes f.head) h k k
-
-  serves-fine : (w : World) (fs : List Waiting) → list_all has_source fs ≡ true → FineWorld w → FineWorld (serves w fs).0
-  serves-fine w [] h k = k
-  serves-fine w (f ∷ later) h k =
-      posts-fine (record w { waiting = later }) f w.published (first_so (has_source f) _ h)
-      (record { changes = k.changes; waits = second_so (has_source f) _ h; holds = k.holds; reports = k.reports })
-
-  posts_held-fine : (w : World) (h : Holding) (point : Option ℕ) → holds_source h ≡ true → FineWorld w → FineWorld (posts_held w h point).0
-  posts_held-fine w h None its k = posts-fine (lets_go w h.waiting.id) h.waiting h.floor its (lets_go-fine w h.waiting.id k)
-  posts_held-fine w h (Some point) its k =
-      elim (is_point w h point) as (λ b. FineWorld (cond {A = Stepped} b (posts (lets_go w h.waiting.id) h.waiting point) (refused w NoSuchPoint)).0) [
-        | true ↦ posts-fine (lets_go w h.waiting.id) h.waiting point its (lets_go-fine w h.waiting.id k)
-        | false ↦ k
-      ]
-
-  posts_at-fine : (w : World) (id : ℕ) (o : Option Holding) (point : Option ℕ) → held_with w id ≡ o → FineWorld w → FineWorld (posts_at w o point).0
-  posts_at-fine w id None point is k = k
-  posts_at-fine w id (Some h) point is k = posts_held-fine w h point (find-all (λ (x : Holding). x.waiting.id == id) holds_source w.held h k.holds is) k
-
-  turns-fine : (w : World) (dom : ℕ) (o : Option Chip) → chip_at w dom ≡ o → FineWorld w → FineWorld (turns w o).0
-  turns-fine w dom None at k = k
-  turns-fine w dom (Some c) at k = by (next_of w c)
-    where
-      by : (o : Option Change) → FineWorld (turns_to w c o).0
-      by None = k
-      by (Some x) = chip-fine w (applies c x) (asked-reported (record c { count = c.count + 1 }) (asks x) (chip-each Reported w.chips dom c k.reports at)) k
-
-  tells-fine : (w : World) (c : Chip) (rs : List Triple) → list_all is_told rs ≡ true → FineWorld w → FineWorld (tells w c rs).0
-  tells-fine w c [] h k = k
-  tells-fine w c (x ∷ later) h k =
-      answered-fine w (with_chip w (record c { reports = later })) (events.Told x.0 x.1 x.2) (first_so (is_told x) _ h) k
-      (chip-fine w (record c { reports = later }) (second_so (is_told x) _ h) k)
-
-  reports-fine : (w : World) (dom : ℕ) (o : Option Chip) → chip_at w dom ≡ o → FineWorld w → FineWorld (reports w o).0
-  reports-fine w dom None at k = k
-  reports-fine w dom (Some c) at k = tells-fine w c c.reports (chip-each Reported w.chips dom c k.reports at) k
-
-  sweeps-fine : (w : World) (dom : ℕ) (o : Option Chip) → chip_at w dom ≡ o → FineWorld w → FineWorld (sweeps w o).0
-  sweeps-fine w dom None at k = k
-  sweeps-fine w dom (Some c) at k =
-      answered-fine w (with_chip w (record c { hits = [] })) (swept w c) tt k (chip-fine w (record c { hits = [] }) (chip-each Reported w.chips dom c k.reports at) k)
+  ends-fine : (w : World) {step : Step} {y : Stepped} → Ends w step y → has_line ports step ≡ true → FineWorld w → FineWorld y.0
+  ends-fine w (ends_refused why) h k = k
+  ends-fine w (ends_unread port bytes why is) h k = k
+  ends-fine w (ends_entered port bytes n) h k =
+      let word : Bool = is_word (shown bytes) && list_all is_byte (shown bytes) in
+      let are = second_so (is_word (shown bytes)) (list_all is_byte (shown bytes)) (first_so word true (second_so (has_number ports port) (word && true) h)) in
+      let kept = enters-kept n.enters (source-small bytes n.head n.is are) k.reports in
+      record { changes = k.changes; waits = joins-kept n.joins kept.0 k.waits; holds = k.holds; reports = kept.1 }
+  ends-fine w (ends_held f later is) h k =
+      let all : list_all has_source (f ∷ later) ≡ true = ap (list_all has_source) (sym is) ∙ k.waits in
+      record {
+        changes = k.changes;
+        waits = second_so (has_source f) _ all;
+        holds = list_all-append holds_source w.held (record { waiting = f; floor = w.published } ∷ []) ∙ and_from _ _ k.holds (and_from _ _ (first_so (has_source f) _ all) refl);
+        reports = k.reports;
+      }
+  ends-fine w (ends_sent f held waiting point (by_serve g later is)) h k =
+      let all : list_all has_source (f ∷ later) ≡ true = ap (list_all has_source) (sym is) ∙ k.waits in
+      let v = record w { waiting = later } in
+      let l : FineWorld v = record { changes = k.changes; waits = second_so (has_source f) _ all; holds = k.holds; reports = k.reports } in
+      answered-fine v v (events.Sight f.port f.bytes f.head) (first_so (has_source f) _ all) l l
+  ends-fine w (ends_sent f held waiting point (by_post id named g at is names decided)) h k =
+      let v = lets_go w f.id in
+      let l : FineWorld v = record {
+        changes = k.changes;
+        waits = k.waits;
+        holds = filter-all holds_source (λ (x : Holding). not (x.waiting.id == f.id)) w.held k.holds;
+        reports = k.reports;
+      } in
+      answered-fine v v (events.Sight f.port f.bytes f.head) (find-all (λ (x : Holding). x.waiting.id == id) holds_source w.held g k.holds is) l l
+  ends-fine w (ends_applied dom c d at is) h k =
+      chip-fine w (applies c d) (asked-reported (record c { count = c.count + 1 }) (asks d) (chip-each Reported w.chips dom c k.reports at)) k
+  ends-fine w (ends_idle dom) h k = k
+  ends-fine w (ends_answered chips e (by_command c)) h k = answered-fine w w e h k k
+  ends-fine w (ends_answered chips e (by_moment moment)) h k = answered-fine w w e tt k k
+  ends-fine w (ends_answered chips e (by_report dom c x later at is)) h k =
+      let all : list_all is_told (x ∷ later) ≡ true = ap (list_all is_told) (sym is) ∙ chip-each Reported w.chips dom c k.reports at in
+      answered-fine w (record w { chips = chips }) e (first_so (is_told x) _ all) k (chip-fine w (record c { reports = later }) (second_so (is_told x) _ all) k)
+  ends-fine w (ends_answered chips e (by_sweep dom c at)) h k =
+      answered-fine w (record w { chips = chips }) e tt k (chip-fine w (record c { hits = [] }) (chip-each Reported w.chips dom c k.reports at) k)
+  ends-fine w ends_published h k = k
 
   step-fine : (w : World) (step : Step) → has_line ports step ≡ true → FineWorld w → FineWorld (world_step w step).0
-  step-fine w (Rx port bytes) h k =
-      let word : Bool = is_word (shown bytes) && list_all is_byte (shown bytes) in
-      enters-fine (record w { steps = w.steps + 1; next = w.next + 1 }) w.next port bytes (frame bytes) refl
-      (second_so (is_word (shown bytes)) (list_all is_byte (shown bytes)) (first_so word true (second_so (has_number ports port) (word && true) h))) k
-  step-fine w (Cmd c) h k = answered-fine (record w { steps = w.steps + 1 }) (record w { steps = w.steps + 1 }) (events.Cmd c) h k k
-  step-fine w (Now moment) h k = answered-fine (record w { steps = w.steps + 1 }) (record w { steps = w.steps + 1 }) (events.Moment moment) tt k k
-  step-fine w Serve h k = serves-fine (record w { steps = w.steps + 1 }) w.waiting k.waits k
-  step-fine w Hold h k = holds-fine (record w { steps = w.steps + 1 }) w.waiting k.waits k
-  step-fine w (Post id point) h k = posts_at-fine (record w { steps = w.steps + 1 }) id (held_with w id) point refl k
-  step-fine w (Turn dom) h k = turns-fine (record w { steps = w.steps + 1 }) dom (chip_at w dom) refl k
-  step-fine w (Report dom) h k = reports-fine (record w { steps = w.steps + 1 }) dom (chip_at w dom) refl k
-  step-fine w (Sweep dom) h k = sweeps-fine (record w { steps = w.steps + 1 }) dom (chip_at w dom) refl k
-  step-fine w Publish h k = k
+  step-fine w step h k = let u = record w { steps = w.steps + 1 } in ends-fine u (does-ends u step) h k
 
 -- Messages.
 
