@@ -31,10 +31,8 @@ use Rattle.br_model.specs.Control.Reaction.{Reaction}
 use Rattle.br_model.specs.Data.Maps.{pair_cmp, get}
 use Rattle.br_model.specs.Data.Numbers.{is_multicast}
 use Rattle.br_model.specs.Plane.Chip.{Chip, applies, first_chip, hit_asked, hit_of, hits_entry, notes, offered, offers, report, report_of, same_triple}
-use Rattle.br_model.specs.Plane.ChipSteps.{reports}
-use Rattle.br_model.specs.Plane.Entering.{waits}
 use Rattle.br_model.specs.Plane.Runs.{run}
-use Rattle.br_model.specs.Plane.Serving.{holds, lets_go}
+use Rattle.br_model.specs.Plane.Serving.{lets_go}
 use Rattle.br_model.specs.Plane.Steps.{world_step}
 use Rattle.br_model.specs.Plane.World.{World, Holding, Stepped, Waiting, answered, chip_at, first_world, next_of, reacts, table_of_chip, with_chip}
 use Rattle.br_model.specs.Table.Change.{asks, deferred}
