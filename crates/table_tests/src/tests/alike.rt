@@ -24,7 +24,7 @@ fn assert_alike(rt: &impl Abort, alloc: Global, edition: Edition) {
         both::accept(rt, &mut chips, &chance.change(rt));
         let port = chance.chip_port(rt);
         let both = &mut chips[both::place_of(port)];
-        both.turn();
+        both.turn(rt);
         let head = chance.head(rt);
         let class = both.assert_alike(rt, port, &head, &chance.message());
         tally.count(class, &head);

@@ -1,8 +1,10 @@
 //! A chip and software after the same changes.
-ghost use Rattle.std.specs.Prelude.{◌≡◌, ◌≢◌, ◌<◌};
-ghost use Rattle.br_model.specs.Table.Domains.{host, software};
-ghost use Rattle.br_model.specs.Table.Table.{start};
-ghost use Rattle.chip_driver.specs.Drives.{Drives};
+ghost use Rattle.std.specs.Prelude.{◌≡◌, ◌≢◌, ◌<◌, true};
+ghost use Rattle.br_model.specs.Table.Change.{deferred};
+ghost use Rattle.br_model.specs.Table.Domains.{Domains as DomainsValue, host, software};
+ghost use Rattle.br_model.specs.Table.Table.{Table, apply, start};
+ghost use Rattle.br_model.specs.declared.domains.Edition.TheVariants.{Two};
+ghost use Rattle.chip_driver.specs.Drives.{Drives, IsTaken};
 
 use crate::tests::common::assert_same;
 use br_model::change::{Change, FORWARDING, Update};
@@ -138,6 +140,21 @@ pub(crate) fn accept(rt: &impl Abort, chips: &mut [Both; 4], change: &Change) {
     }
 }
 
+/// The driver gets the change as its next update.
+fn give(rt: &impl Abort, driver: &mut Driver, change: &Change)
+    requires taken { IsTaken driver.old change.now }
+    requires queued { deferred Two change.now ≡ true }
+    ensures { (d : DomainsValue) (t : Table) → Drives d driver.old t → Drives d driver.new (apply t change.now) }
+{
+    let ticket = driver.count();
+    assert!(rt; (ticket as usize) < MOST_CHANGES);
+    let update = Update {
+        ticket,
+        change: *change,
+    };
+    driver.address(&update);
+}
+
 impl Both {
     /// The chip of the domain of this number, before any change.
     pub(crate) fn make(rt: &impl Abort, alloc: Global, edition: Edition, number: u8) -> Both {
@@ -163,24 +180,19 @@ impl Both {
     }
 
     /// Both make the next change that waits.
-    pub(crate) fn turn(&mut self) {
+    pub(crate) fn turn(&mut self, rt: &impl Abort) {
         if let Some(change) = self.waiting.pop_front() {
-            self.take(&change);
+            self.take(rt, &change);
         }
     }
 
     /// Both make the change, which the chip gets as an update, where it fits.
-    fn take(&mut self, change: &Change) {
-        let ticket = self.driver.count();
-        if !change.is_deferred(Edition::Two) || ticket >= MOST_CHANGES {
+    fn take(&mut self, rt: &impl Abort, change: &Change) {
+        if !change.is_deferred(Edition::Two) {
             return;
         }
         if self.soft.fits(change) {
-            let update = Update {
-                ticket,
-                change: *change,
-            };
-            self.driver.address(&update);
+            give(rt, &mut *self.driver, change);
             self.soft.apply(change);
         }
     }
