@@ -98,17 +98,19 @@ pub record Takes (old : Session) (more : List ℕ) (new : Session) : Type 0 wher
 abbrev pub IsFull : Session → ℕ → Type 0
 IsFull x n = most_bytes < x.taken + n
 
+-- Behind the end the answer is that it has ended, and no other.
+
 abbrev pub RefusesLine : Session → List ℕ → SessionFault → Type 0
 RefusesLine x line faults.Ended = (well : Bool) × (end_of x.awaits ≡ Some well)
-RefusesLine x line faults.Misplaced = ((n : ℕ) × (section_of x.awaits ≡ Some n)) ⊎ (is_line line ≡ false)
-RefusesLine x line faults.TooLong = IsFull x (length line + 1)
-RefusesLine x line faults.NoMemory = Unit {0}
+RefusesLine x line faults.Misplaced = (end_of x.awaits ≡ None) × (((n : ℕ) × (section_of x.awaits ≡ Some n)) ⊎ (is_line line ≡ false))
+RefusesLine x line faults.TooLong = (end_of x.awaits ≡ None) × IsFull x (length line + 1)
+RefusesLine x line faults.NoMemory = end_of x.awaits ≡ None
 
 abbrev pub RefusesSection : Session → List ℕ → SessionFault → Type 0
 RefusesSection x section faults.Ended = (well : Bool) × (end_of x.awaits ≡ Some well)
 RefusesSection x section faults.Misplaced = (end_of x.awaits ≡ None) × (section_of x.awaits ≡ Some (length section) → ⊥)
-RefusesSection x section faults.TooLong = IsFull x (length section)
-RefusesSection x section faults.NoMemory = Unit {0}
+RefusesSection x section faults.TooLong = (end_of x.awaits ≡ None) × IsFull x (length section)
+RefusesSection x section faults.NoMemory = end_of x.awaits ≡ None
 
 -- but for want of memory the session is as before
 abbrev pub IsKept : Session → Session → SessionFault → Type 0
