@@ -5,7 +5,7 @@ use Rattle.br_model.specs.Text.Scenario.{opened, reads}
 use Rattle.whole_texts.specs.declared.session.Session.{Session}
 use Rattle.whole_texts.specs.declared.session.SessionFault.{SessionFault}
 use Rattle.whole_texts.specs.declared.session.SessionFault.TheVariants as faults
-use Rattle.whole_texts.specs.Sessions.{Goes, IsAt, IsSectionWanted, IsSound, IsWanted, RefusesLine, RefusesSection, ended_of, told_so_far}
+use Rattle.whole_texts.specs.Sessions.{Goes, IsAt, IsSectionWanted, IsSound, IsWanted, RefusesLine, RefusesSection, end_of, ended_of, told_so_far}
 use Rattle.switchbr_c.specs.Calls.{Gave, Tells, is_of}
 use Rattle.switchbr_c.specs.Sessions.{Ends, GaveNext, Gives, GivesKept, GivesText, HasTaken, IsClosed, IsUntouched, MaySettle, Opens, Passes, PassesLine, PassesSection, Refuses, Settles, fine_at, is_fine}
 
@@ -95,8 +95,22 @@ module _ (x y : Session) (more : List ℕ) (wanted : Type 0) (refuses : SessionF
   among : (s : ℕ) → is_of (0 ∷ 3 ∷ 16 ∷ []) s ≡ true → is_of (0 ∷ 2 ∷ 3 ∷ 6 ∷ 7 ∷ 16 ∷ 17 ∷ []) s ≡ true
   among s h = or_more (0 == s) (3 == s) (16 == s) (2 == s) (6 == s) (7 == s) (17 == s) h
 
-  passes : (r : Result (Unit {0}) SessionFault) → Goes x more wanted refuses y r → Settles y r old new len after status → Passes x more wanted refuses old new len after status
-  passes (Ok done) h s = record {
+  abbrev GoesOn : Type 0
+  GoesOn = end_of x.awaits ≡ None
+
+  -- it has ended, and goes on
+  both : (well : Bool) → end_of x.awaits ≡ Some well → GoesOn → ⊥
+  both well ended on = let none : None ≡ Some well = sym on ∙ ended in absurd (cc)
+
+  -- whatever isn't refused by the end
+  record NotEnded : Type 0 where
+    pub wanted : wanted → GoesOn
+    pub misplaced : refuses faults.Misplaced → GoesOn
+    pub too_long : refuses faults.TooLong → GoesOn
+    pub no_memory : refuses faults.NoMemory → GoesOn
+
+  passes : NotEnded → (r : Result (Unit {0}) SessionFault) → Goes x more wanted refuses y r → Settles y r old new len after status → Passes x more wanted refuses old new len after status
+  passes on (Ok done) h s = record {
     gives = λ bytes given k. s.gives (bytes ++ more) given (h.1.at bytes given k);
     takes = λ _. h.0;
     usage = λ e. absurd (not_in 2 e refl s.others);
@@ -104,8 +118,9 @@ module _ (x y : Session) (more : List ℕ) (wanted : Type 0) (refuses : SessionF
     too_long = λ e. absurd (not_in 7 e refl s.others);
     closed = λ e. absurd (not_in 17 e refl s.others);
     others = among status s.others;
+    ended = λ well e. absurd (both well e (on.wanted h.0));
   }
-  passes (Err faults.Ended) h s = record {
+  passes on (Err faults.Ended) h s = record {
     gives = λ bytes given k. none_given 17 s.0.0 refl (bytes ++ more) given;
     takes = λ e. absurd (not_in 17 s.0.0 refl e);
     usage = λ e. absurd (omega (arith, e, s.0.0));
@@ -113,8 +128,9 @@ module _ (x y : Session) (more : List ℕ) (wanted : Type 0) (refuses : SessionF
     too_long = λ e. absurd (omega (arith, e, s.0.0));
     closed = λ e. (h.1, same h.0 (s.0.1, s.1));
     others = ap (is_of (0 ∷ 2 ∷ 3 ∷ 6 ∷ 7 ∷ 16 ∷ 17 ∷ [])) s.0.0;
+    ended = λ well e. s.0.0;
   }
-  passes (Err faults.Misplaced) h s = record {
+  passes on (Err faults.Misplaced) h s = record {
     gives = λ bytes given k. none_given 2 s.0.0 refl (bytes ++ more) given;
     takes = λ e. absurd (not_in 2 s.0.0 refl e);
     usage = λ e. (h.1, same h.0 (s.0.1, s.1));
@@ -122,8 +138,9 @@ module _ (x y : Session) (more : List ℕ) (wanted : Type 0) (refuses : SessionF
     too_long = λ e. absurd (omega (arith, e, s.0.0));
     closed = λ e. absurd (omega (arith, e, s.0.0));
     others = ap (is_of (0 ∷ 2 ∷ 3 ∷ 6 ∷ 7 ∷ 16 ∷ 17 ∷ [])) s.0.0;
+    ended = λ well e. absurd (both well e (on.misplaced h.1));
   }
-  passes (Err faults.TooLong) h s = record {
+  passes on (Err faults.TooLong) h s = record {
     gives = λ bytes given k. none_given 7 s.0.0 refl (bytes ++ more) given;
     takes = λ e. absurd (not_in 7 s.0.0 refl e);
     usage = λ e. absurd (omega (arith, e, s.0.0));
@@ -131,8 +148,9 @@ module _ (x y : Session) (more : List ℕ) (wanted : Type 0) (refuses : SessionF
     too_long = λ e. (h.1, same h.0 (s.0.1, s.1));
     closed = λ e. absurd (omega (arith, e, s.0.0));
     others = ap (is_of (0 ∷ 2 ∷ 3 ∷ 6 ∷ 7 ∷ 16 ∷ 17 ∷ [])) s.0.0;
+    ended = λ well e. absurd (both well e (on.too_long h.1));
   }
-  passes (Err faults.NoMemory) h s = record {
+  passes on (Err faults.NoMemory) h s = record {
     gives = λ bytes given k. none_given 6 s.0.0 refl (bytes ++ more) given;
     takes = λ e. absurd (not_in 6 s.0.0 refl e);
     usage = λ e. absurd (omega (arith, e, s.0.0));
@@ -140,6 +158,7 @@ module _ (x y : Session) (more : List ℕ) (wanted : Type 0) (refuses : SessionF
     too_long = λ e. absurd (omega (arith, e, s.0.0));
     closed = λ e. absurd (omega (arith, e, s.0.0));
     others = ap (is_of (0 ∷ 2 ∷ 3 ∷ 6 ∷ 7 ∷ 16 ∷ 17 ∷ [])) s.0.0;
+    ended = λ well e. absurd (both well e (on.no_memory h.1));
   }
 
 -- the session of a handle
@@ -174,13 +193,13 @@ module _ (h : Option Session) (old new : List ℕ) (len : ℕ) (after : Option S
         → Goes d (line ++ 10 ∷ []) (IsWanted d line) (RefusesLine d line) y r → Settles y r old new len after status → PassesLine h line old new len after status
     passes_line y line r goes s =
         subst (λ (o : Option Session). PassesLine o line old new len after status) (sym has)
-        (passes d y (line ++ 10 ∷ []) (IsWanted d line) (RefusesLine d line) old new len after status r goes s)
+        (passes d y (line ++ 10 ∷ []) (IsWanted d line) (RefusesLine d line) old new len after status (record { wanted = λ h. ap end_of h.awaits; misplaced = λ h. h.0; too_long = λ h. h.0; no_memory = λ h. h }) r goes s)
 
     pub passes_section : (y : Session) (section : List ℕ) (r : Result (Unit {0}) SessionFault)
         → Goes d section (IsSectionWanted d section) (RefusesSection d section) y r → Settles y r old new len after status → PassesSection h section old new len after status
     passes_section y section r goes s =
         subst (λ (o : Option Session). PassesSection o section old new len after status) (sym has)
-        (passes d y section (IsSectionWanted d section) (RefusesSection d section) old new len after status r goes s)
+        (passes d y section (IsSectionWanted d section) (RefusesSection d section) old new len after status (record { wanted = λ h. ap end_of h.awaits; misplaced = λ h. h.0; too_long = λ h. h.0; no_memory = λ h. h }) r goes s)
 
     pub gives_text : (y : Session) → after ≡ Some y → GivesKept d old new len (Some y) status → GivesText h old new len after status
     gives_text y put g =

@@ -8,7 +8,7 @@ use Rattle.br_model.specs.Text.Scenario.{opened, reads}
 use Rattle.whole_texts.specs.declared.session.Session.{Session}
 use Rattle.whole_texts.specs.declared.session.SessionFault.{SessionFault}
 use Rattle.whole_texts.specs.declared.session.SessionFault.TheVariants as faults
-use Rattle.whole_texts.specs.Sessions.{IsAt, IsSectionWanted, IsSound, IsWanted, RefusesLine, RefusesSection, ended_of, told_so_far}
+use Rattle.whole_texts.specs.Sessions.{IsAt, IsSectionWanted, IsSound, IsWanted, RefusesLine, RefusesSection, end_of, ended_of, told_so_far}
 use Rattle.switchbr_c.specs.Calls.{Gave, GaveNothing, is_of}
 
 -- The handle's session has taken these bytes and given this text.
@@ -90,6 +90,8 @@ pub record Passes (x : Session) (more : List ℕ) (wanted : Type 0) (refuses : S
   pub too_long : status ≡ 7 → refuses faults.TooLong × IsUntouched (Some x) after old new len
   pub closed : status ≡ 17 → refuses faults.Ended × IsUntouched (Some x) after old new len
   pub others : is_of (0 ∷ 2 ∷ 3 ∷ 6 ∷ 7 ∷ 16 ∷ 17 ∷ []) status ≡ true
+  -- behind the end of the scenario
+  pub ended : (well : Bool) → end_of x.awaits ≡ Some well → status ≡ 17
 
 -- where there is no session
 abbrev pub IsClosed : List ℕ → List ℕ → ℕ → Option Session → ℕ → Type 0

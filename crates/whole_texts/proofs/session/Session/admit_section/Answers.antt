@@ -10,6 +10,9 @@ returns-in-Line c = (ap end_of c.in-Line.is, not_wanted _ _ c.in-Line.is)
 pub returns-then-section-length : goal.returns-then-section-length
 returns-then-section-length c = (ap end_of c.in-Section.is, not_that_long _ _ _ c.in-Section.is c.if-section-length.true)
 
+pub returns-then-section-self : goal.returns-then-section-self
+returns-then-section-self c = (ap end_of c.in-Section.is, omega (arith, c.requires.most, c.if-section-self.true))
+
 pub returns-else-section-self : goal.returns-else-section-self
 returns-else-section-self c = record { awaits = c.in-Section.is ∙ ap Section (sym c.if-section-length.false); room = omega (arith, c.requires.most, c.if-section-self.false) }
 

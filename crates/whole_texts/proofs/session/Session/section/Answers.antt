@@ -1,6 +1,6 @@
 use Rattle.std.proofs.Common.{Err, ap, refl, ◌∙◌}
 use Rattle.std.proofs.lemmas.Result.{err_from_is_err_and}
-use Rattle.whole_texts.specs.Sessions.{IsSectionWanted, RefusesSection}
+use Rattle.whole_texts.specs.Sessions.{IsSectionWanted, RefusesSection, end_of}
 use Rattle.whole_texts.proofs.Sessions.{refused, section_awaiting, takes_section}
 use Rattle.whole_texts.proofs.session.Session.section.Goals as goal
 
@@ -26,3 +26,6 @@ end_section-requires-clause-behind c = (section_awaiting c.args.self.now c.args.
 pub returns-in-Ok : goal.returns-in-Ok
 returns-in-Ok c =
     let wanted = c.in_ok-admit_section.ensures in (wanted, takes_section c.args.self.now c.args.section.now c.requires wanted c.end_section.new.self _ c.in-Ok.ensures refl refl refl)
+
+pub returns-in-Err : goal.returns-in-Err
+returns-in-Err c = (tt, ap end_of c.in_ok-admit_section.ensures.awaits)
