@@ -104,7 +104,7 @@ module _ (x y : Session) (more : List ℕ) (wanted : Type 0) (refuses : SessionF
 
   -- whatever isn't refused by the end
   record NotEnded : Type 0 where
-    pub wanted : wanted → GoesOn
+    pub takes : wanted → GoesOn
     pub misplaced : refuses faults.Misplaced → GoesOn
     pub too_long : refuses faults.TooLong → GoesOn
     pub no_memory : refuses faults.NoMemory → GoesOn
@@ -118,7 +118,7 @@ module _ (x y : Session) (more : List ℕ) (wanted : Type 0) (refuses : SessionF
     too_long = λ e. absurd (not_in 7 e refl s.others);
     closed = λ e. absurd (not_in 17 e refl s.others);
     others = among status s.others;
-    ended = λ well e. absurd (both well e (on.wanted h.0));
+    ended = λ well e. absurd (both well e (on.takes h.0));
   }
   passes on (Err faults.Ended) h s = record {
     gives = λ bytes given k. none_given 17 s.0.0 refl (bytes ++ more) given;
@@ -193,13 +193,13 @@ module _ (h : Option Session) (old new : List ℕ) (len : ℕ) (after : Option S
         → Goes d (line ++ 10 ∷ []) (IsWanted d line) (RefusesLine d line) y r → Settles y r old new len after status → PassesLine h line old new len after status
     passes_line y line r goes s =
         subst (λ (o : Option Session). PassesLine o line old new len after status) (sym has)
-        (passes d y (line ++ 10 ∷ []) (IsWanted d line) (RefusesLine d line) old new len after status (record { wanted = λ h. ap end_of h.awaits; misplaced = λ h. h.0; too_long = λ h. h.0; no_memory = λ h. h }) r goes s)
+        (passes d y (line ++ 10 ∷ []) (IsWanted d line) (RefusesLine d line) old new len after status (record { takes = λ h. ap end_of h.awaits; misplaced = λ h. h.0; too_long = λ h. h.0; no_memory = λ h. h }) r goes s)
 
     pub passes_section : (y : Session) (section : List ℕ) (r : Result (Unit {0}) SessionFault)
         → Goes d section (IsSectionWanted d section) (RefusesSection d section) y r → Settles y r old new len after status → PassesSection h section old new len after status
     passes_section y section r goes s =
         subst (λ (o : Option Session). PassesSection o section old new len after status) (sym has)
-        (passes d y section (IsSectionWanted d section) (RefusesSection d section) old new len after status (record { wanted = λ h. ap end_of h.awaits; misplaced = λ h. h.0; too_long = λ h. h.0; no_memory = λ h. h }) r goes s)
+        (passes d y section (IsSectionWanted d section) (RefusesSection d section) old new len after status (record { takes = λ h. ap end_of h.awaits; misplaced = λ h. h.0; too_long = λ h. h.0; no_memory = λ h. h }) r goes s)
 
     pub gives_text : (y : Session) → after ≡ Some y → GivesKept d old new len (Some y) status → GivesText h old new len after status
     gives_text y put g =
