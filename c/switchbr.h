@@ -73,9 +73,10 @@ switchbr_status switchbr_generate(uint64_t number, uint32_t count, uint8_t *out,
    *line is 0, but for DIFFERS and BAD_LINE. */
 switchbr_status switchbr_check(const uint8_t *scenario, size_t size, const uint8_t *transcript, size_t transcript_size, uint32_t *line);
 
-/* A session takes a scenario line by line, and gives after each the lines of the transcript that it tells. All that it gives together is what
-   `replay` gives of the same lines. It is yours: make it of zeroes, open it, lend it to one call at a time, end it, neither copy it nor
-   write to it. Use it in the thread that has opened it: the proof is of a session that stays there, and nothing is promised of another. */
+/* A session takes a scenario line by line, and gives after each the lines of the transcript that it tells. Once the scenario has ended, all
+   that it has given together is what `replay` gives of the same lines. It is yours: make it of zeroes, open it, lend it to one call at a time,
+   end it, neither copy it nor write to it. Use it in the thread that has opened it: the proof is of a session that stays there, and nothing is
+   promised of another. */
 typedef struct {
     void *at;
     bool is_open;
