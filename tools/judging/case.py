@@ -112,7 +112,7 @@ class Case:
         if self.bridge.switch_ports and not self.bounds.chip:
             window.skip = window.skip or "at a bridge with ports of a switch"
         if window.skip:
-            self.uncompared[window.skip] += len(window.frames)
+            self.uncompared[window.skip] += len(window.frames) + len(window.strangers)
         elif window.frames or window.strangers:
             self.judge(self, window)
         self.prune(window.end)
@@ -140,8 +140,9 @@ class Case:
             self.finish(self.closing.popleft())
 
     def pass_bounds(self, time):
-        """Begins a window where the judging begins or ends, and where the window is full."""
-        if self.window.skip != self.why_skipped(time) or self.window.is_full(self.bounds):
+        """Begins a window where the judging begins or ends, and where the window is full and no change is near."""
+        is_full = self.window.is_full(self.bounds) and not named.is_near_change(self, time)
+        if is_full or self.window.skip != self.why_skipped(time):
             self.renew(time)
 
     # ---- what the kernel says ----
