@@ -163,7 +163,7 @@ class Bridge:
     def events(self):
         """(moment, what happens then) beside the frames, in order."""
         def each(first, gap, what):
-            return [(moment, what) for moment in range(first, self.end, gap)]
+            return [(moment, what) for moment in range(first, 2 * self.end, gap)]
         minute = 60 * 10**6
         return sorted(each(126 * 10**6, 125 * 10**6, self.query) + each(SETTLED - 10**6, 125 * 10**6, self.all_report) +
                       each(20500000, minute // 3, self.flap_vlan) + each(62500000, minute, self.flap_port) + each(5700000, minute // 12, self.age),
