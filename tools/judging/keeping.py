@@ -10,8 +10,11 @@ import re
 
 import packets
 import verdict
+from model import HOST
 
 SENT, DIFFERS = "# Linux:", "# Linux differs:"
+FLOODED = "leave-flood"  # the difference by which Linux floods a frame
+QUIETED = re.compile("cmd link (?!HOST |QUERIER ).* mcast_flood off")
 Kept = collections.namedtuple("Kept", "line linux name")  # of a frame: its line, the (number, tag) of what left, and its name
 
 
@@ -65,10 +68,40 @@ def read(text):
     return lines, kept
 
 
+def flooded(lines, kept):
+    """By the number of each frame that the kernel is said to flood where it would leave if it went to a group that nobody asked for. What the
+    host sends is flooded to ports with `mcast_flood off`, too."""
+    found = {}
+    for by_host in (False, True):
+        numbers = {number for number, frame in kept.items() if frame.name == FLOODED and (port_of(frame.line) == HOST) == by_host}
+        if numbers:
+            given = [line for line in lines if not (by_host and QUIETED.fullmatch(line))]
+            sent = verdict.sent_by_number(verdict.run(["replay"], list(to_unknown_groups(given, numbers))))
+            found.update({number: verdict.seen(HOST if by_host else 0, b"", sent[number]) for number in numbers})
+    return found
+
+
+def port_of(line):
+    return int(line.split()[1])
+
+
+def to_unknown_groups(lines, numbers):
+    """The lines, in which these frames go to a group that nobody asks for."""
+    frames = 0
+    for line in lines:
+        if line.startswith("rx "):
+            frames += 1
+            if frames in numbers:
+                _, port, digits = line.split()
+                line = "rx %s %s" % (port, packets.to_unknown_group(bytes.fromhex(digits)).hex())
+        yield line
+
+
 def compare(name, text, counts):
     """Lines for people about the frames that leave otherwise than in the kernel; counts what was compared."""
     lines, kept = read(text)
     sent = verdict.sent_by_number(verdict.run(["replay"], lines))
+    floods = flooded(lines, kept)
     for number, frame in kept.items():
         _, port, digits = frame.line.split()
         data = bytes.fromhex(digits)
@@ -78,11 +111,20 @@ def compare(name, text, counts):
         differs = {(port, packets.tag_of(each)) for port, each in ours} != {(port, bytes.fromhex(tag)) for port, tag in frame.linux}
         differs = differs or any(packets.bare(each) != packets.bare(data) for _, each in ours)
         counts["named"] += differs and frame.name is not None
-        if differs != (frame.name is not None):
+        counts["flooded"] += number in floods
+        why = why_unfit(frame, differs, floods.get(number))
+        if why is not None:
             counts["differ"] += 1
-            yield "%s frame %d: %s\n  switchbr: %s\n  Linux:    %s%s" % (
-                name, number, packets.describe(data), ports(ours), ports(frame.linux),
-                "\n  named, and doesn't differ: " + frame.name if frame.name else "")
+            yield "%s frame %d: %s\n  switchbr: %s\n  Linux:    %s%s" % (name, number, packets.describe(data), ports(ours), ports(frame.linux), why)
+
+
+def why_unfit(frame, differs, flood):
+    """Why a frame isn't as the kernel's words say, or None."""
+    if differs != (frame.name is not None):
+        return "\n  named, and doesn't differ: " + frame.name if frame.name else ""
+    if flood is not None and {port for port, _ in frame.linux} != {port for port, _ in flood}:
+        return "\n  named %s, and a flood leaves by %s" % (frame.name, ports(flood))
+    return None
 
 
 def ports(sent):

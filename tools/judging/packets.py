@@ -295,6 +295,11 @@ def membership(group, vid):
     return frames.report(group, frames.Sender(SENDER, "10.255.255.253", "fe80::fffe"), tagged(vid))
 
 
+def to_unknown_group(data):
+    """A frame of the same station, with its tag, to a group that nobody asks for."""
+    return bytes.fromhex("0100000000fe") + data[6:12] + (data[12:16] if data[12:14] == TAG else b"") + b"\x88\xb5\0\0"
+
+
 def teaching(source, vid):
     """A frame that teaches its source, and is of no other use."""
     return frames.ethernet("02fffffffffe", source.replace(":", ""), "88b5", b"\0\0", tagged(vid))
