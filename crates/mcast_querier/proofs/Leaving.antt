@@ -8,7 +8,7 @@ use Rattle.std.specs.List.{AllByRecursion, All, flat_map, fold, list_any}
 use Rattle.std.specs.Option.{option_map_or}
 use Rattle.br_model.specs.declared.steps.Step.{Step}
 use Rattle.br_model.specs.declared.transcript.Line.{Line}
-use Rattle.br_model.specs.declared.transcript.Line.TheVariants as lines
+use Rattle.br_model.specs.Plane.LineTraits.{is_done, leaving}
 use Rattle.br_model.specs.Plane.Steps.{world_step}
 use Rattle.br_model.specs.Plane.Traits.{traits}
 use Rattle.br_model.specs.Table.Domains.{host}
@@ -18,7 +18,7 @@ use Rattle.mcast_querier.specs.Hearing.{Asker}
 use Rattle.mcast_querier.specs.Leaving.{IsDue}
 use Rattle.mcast_querier.specs.Querier.{Act, Ascend, Comes, Hears, Queried, QuerierState, acted, after, election, first_querier, heard_from, moment_of, queries}
 use Rattle.mcast_querier.specs.Queries.{query_four, query_six}
-use Rattle.mcast_querier.specs.Runs.{Listening, acts, acts_of, comes_by, entered, first_listening, heard_in, hears_by, is_done, listens, sent}
+use Rattle.mcast_querier.specs.Runs.{Listening, acts, acts_of, comes_by, entered, first_listening, heard_at, heard_in, hears_by, listens, sent}
 use Rattle.mcast_querier.proofs.Moments.{PassesBy, step-passes}
 use Rattle.mcast_querier.proofs.Silence.{address-stays, yields}
 
@@ -67,21 +67,16 @@ module _ (askers : List (Option Asker)) (n : ℕ) where
   asked-at None = tt
   asked-at (Some asker) = (refl, tt)
 
-  heard-at : (l : Line) → AllAt n (heard_in askers n l)
-  heard-at (lines.Chip id changes applied class) = tt
-  heard-at (lines.Unread id why) = tt
-  heard-at (lines.Soft id point) = tt
-  heard-at (lines.Held id floor) = tt
-  heard-at (lines.Tx id port bytes) =
-      elim (port == host) as (λ b. AllAt n (cond b (hears_by (get_or askers (id - 1) None) n) [])) [
-        | true ↦ asked-at (get_or askers (id - 1) None)
+  left-at : (o : Option (ℕ × ℕ)) → AllAt n (heard_at askers n o)
+  left-at None = tt
+  left-at (Some x) =
+      elim (x.1 == host) as (λ b. AllAt n (cond b (hears_by (get_or askers (x.0 - 1) None) n) [])) [
+        | true ↦ asked-at (get_or askers (x.0 - 1) None)
         | false ↦ tt
       ]
-  heard-at (lines.Ctl port bytes) = tt
-  heard-at (lines.Overrun id) = tt
-  heard-at (lines.Done step changes) = tt
-  heard-at (lines.Refused step why) = tt
-  heard-at (lines.End steps changes pending waiting) = tt
+
+  heard-at : (l : Line) → AllAt n (heard_in askers n l)
+  heard-at l = left-at (leaving l)
 
   all-heard : (told : List Line) → AllAt n (flat_map (heard_in askers n) told)
   all-heard [] = tt
@@ -146,8 +141,8 @@ module _ (first : QuerierState) (all : List Act) (ascends : Ascend 0 all) where
       let between : Ascend t ((since ++ Comes ms ∷ []) ++ later) = subst (Ascend t) (sym (append_assoc since (Comes ms ∷ []) later)) rest.1 in
       yields first six earlier since address t ms lower (ascend-front t (since ++ Comes ms ∷ []) later between) (subst (λ (l : List Act). queries_at (election six (after first l).0) ms ≡ true) e due)
 
-  leaving : (before later : List Act) (ms : ℕ) → all ≡ before ++ Comes ms ∷ later → AllByRecursion (IsDue first all) (map (λ query. (ms, query)) (queries (after first before).0 ms))
-  leaving before later ms parts = by (queries_at q.four ms) (queries_at q.six ms) refl refl
+  all-due : (before later : List Act) (ms : ℕ) → all ≡ before ++ Comes ms ∷ later → AllByRecursion (IsDue first all) (map (λ query. (ms, query)) (queries (after first before).0 ms))
+  all-due before later ms parts = by (queries_at q.four ms) (queries_at q.six ms) refl refl
     where
       q : QuerierState
       q = (after first before).0
@@ -185,7 +180,7 @@ module _ (first : QuerierState) (all : List Act) (ascends : Ascend 0 all) where
       → AllByRecursion (IsDue first all) (acted (after first before) act).1
   acted-due before later (Hears asker now) parts due = due
   acted-due before later (Comes now) parts due =
-      all-append (IsDue first all) (after first before).1 (map (λ query. (now, query)) (queries (after first before).0 now)) due (leaving before later now parts)
+      all-append (IsDue first all) (after first before).1 (map (λ query. (now, query)) (queries (after first before).0 now)) due (all-due before later now parts)
 
   each-due : (before later : List Act) → all ≡ before ++ later → AllByRecursion (IsDue first all) (after first before).1 → AllByRecursion (IsDue first all) (after first all).1
   each-due before [] parts due = subst (λ (l : List Act). AllByRecursion (IsDue first all) (after first l).1) (sym (parts ∙ append-nil before)) due

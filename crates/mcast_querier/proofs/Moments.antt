@@ -34,11 +34,11 @@ use Rattle.std.proofs.Math.Bool.{or-true}
 use Rattle.br_model.specs.declared.steps.Step.{Step}
 use Rattle.br_model.specs.declared.transcript.Line.{Line}
 use Rattle.br_model.specs.declared.transcript.Line.TheVariants.{Done}
+use Rattle.br_model.specs.Plane.LineTraits.{is_done}
 use Rattle.br_model.specs.Plane.Serving.{posts, lets_go}
 use Rattle.br_model.specs.Plane.Steps.{world_step}
 use Rattle.br_model.specs.Plane.Traits.{traits}
 use Rattle.br_model.specs.Plane.World.{World, Waiting, Stepped, answered, control_lines, reacts}
-use Rattle.mcast_querier.specs.Runs.{is_done}
 use Rattle.br_model.proofs.Plane.StepEnds.{Ends, does-ends, ends_answered, ends_applied, ends_entered, ends_held, ends_idle, ends_published, ends_refused, ends_sent, ends_unread}
 use Rattle.br_model.proofs.Plane.StepEnds.{by_command, by_moment, by_post, by_report, by_serve, by_sweep}
 use Rattle.br_model.proofs.Control.ReactionSteps.{IsKept}

@@ -1,6 +1,6 @@
 -- What a querier on the host hears and sends in a run of the world. Its queries don't enter the bridge.
 -- Source: this profile.
-use Rattle.std.specs.Prelude.{ℕ, ◌-◌, ◌==◌, Bool, true, false, if◌then◌else◌, List, [], ◌∷◌, ◌++◌, codes, get_or}
+use Rattle.std.specs.Prelude.{ℕ, ◌-◌, ◌==◌, if◌then◌else◌, List, [], ◌∷◌, ◌++◌, codes, get_or}
 use Rattle.std.specs.Fmt.{decimal}
 use Rattle.std.specs.List.{flat_map, fold, list_any}
 use Rattle.std.specs.Option.{option_map, option_map_or, option_to_list}
@@ -8,8 +8,8 @@ use Rattle.std.specs.declared.option.Option.{Option}
 use Rattle.std.specs.declared.option.Option.TheVariants.{None, Some}
 use Rattle.br_model.specs.declared.steps.Step.{Step}
 use Rattle.br_model.specs.declared.transcript.Line.{Line}
-use Rattle.br_model.specs.declared.transcript.Line.TheVariants as lines
 use Rattle.br_model.specs.Data.Digits.{hex_of}
+use Rattle.br_model.specs.Plane.LineTraits.{is_done, leaving}
 use Rattle.br_model.specs.Plane.Steps.{world_step}
 use Rattle.br_model.specs.Plane.Traits.{traits}
 use Rattle.br_model.specs.Plane.World.{World, Stepped, first_world}
@@ -31,31 +31,15 @@ abbrev pub hears_by : Option Asker → ℕ → List Act
 hears_by None now = []
 hears_by (Some asker) now = Hears asker now ∷ []
 
--- A frame that left for the host is heard; `askers` tells who asks by each frame, in the order of their ids.
-abbrev pub heard_in : List (Option Asker) → ℕ → Line → List Act
-heard_in askers now (lines.Chip id changes applied class) = []
-heard_in askers now (lines.Unread id why) = []
-heard_in askers now (lines.Soft id point) = []
-heard_in askers now (lines.Held id floor) = []
-heard_in askers now (lines.Tx id port bytes) = if port == host then hears_by (get_or askers (id - 1) None) now else []
-heard_in askers now (lines.Ctl port bytes) = []
-heard_in askers now (lines.Overrun id) = []
-heard_in askers now (lines.Done step changes) = []
-heard_in askers now (lines.Refused step why) = []
-heard_in askers now (lines.End steps changes pending waiting) = []
+-- A frame that left for the host is heard: of one that leaves its id and port are given; `askers` tells who asks by each frame, in the
+-- order of their ids.
+abbrev pub heard_at : List (Option Asker) → ℕ → Option (ℕ × ℕ) → List Act
+heard_at askers now None = []
+heard_at askers now (Some x) = if x.1 == host then hears_by (get_or askers (x.0 - 1) None) now else []
 
--- whether the line says that a step was done
-abbrev pub is_done : Line → Bool
-is_done (lines.Chip id changes applied class) = false
-is_done (lines.Unread id why) = false
-is_done (lines.Soft id point) = false
-is_done (lines.Held id floor) = false
-is_done (lines.Tx id port bytes) = false
-is_done (lines.Ctl port bytes) = false
-is_done (lines.Overrun id) = false
-is_done (lines.Done step changes) = true
-is_done (lines.Refused step why) = false
-is_done (lines.End steps changes pending waiting) = false
+-- by a line more
+abbrev pub heard_in : List (Option Asker) → ℕ → Line → List Act
+heard_in askers now l = heard_at askers now (leaving l)
 
 -- the moment that comes by a step with these lines, unless it is refused
 abbrev pub comes_by : Step → List Line → List Act

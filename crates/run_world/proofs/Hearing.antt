@@ -8,10 +8,12 @@ use Rattle.mcast_querier.specs.Hearing.{Asker}
 use Rattle.mcast_querier.specs.Querier.{Act, QuerierState, acted, heard}
 use Rattle.std.proofs.Common.{append-nil, if◌then◌else◌, map, length-append, is_some}
 use Rattle.std.proofs.lemmas.List.{map-append}
+use Rattle.br_model.specs.declared.transcript.Line.{Line}
 use Rattle.br_model.specs.declared.transcript.Line.TheVariants.{Tx}
+use Rattle.br_model.specs.Plane.LineTraits.{leaving}
 use Rattle.port_sets.specs.Numbers.{has_number}
 use Rattle.transcript_lines.specs.Rows.{sent_lines}
-use Rattle.mcast_querier.specs.Runs.{heard_in, hears_by}
+use Rattle.mcast_querier.specs.Runs.{heard_at, heard_in, hears_by}
 use Rattle.run_world.specs.declared.entered.Entered.{Entered}
 use Rattle.run_world.specs.Hearing.{Hears, Keeps, kept_at}
 
@@ -25,6 +27,15 @@ hears_more a b c acts more h k out =
 pub hears_one : (q : QuerierState) (o : Option Asker) (now : ℕ) → Hears q (hears_by o now) (heard q o now)
 hears_one q None now out = refl
 hears_one q (Some asker) now out = refl
+
+-- by a line of a frame that leaves, and by another
+
+pub heard_leaving : (askers : List (Option Asker)) (now : ℕ) (l : Line) (a b : QuerierState) {x : ℕ × ℕ} → leaving l ≡ Some x → Hears a (heard_at askers now (Some x)) b
+    → Hears a (heard_in askers now l) b
+heard_leaving askers now l a b is h = subst (λ (o : Option (ℕ × ℕ)). Hears a (heard_at askers now o) b) (sym is) h
+
+pub heard_nothing : (askers : List (Option Asker)) (now : ℕ) (l : Line) (q : QuerierState) → leaving l ≡ None → Hears q (heard_in askers now l) q
+heard_nothing askers now l q is = subst (λ (o : Option (ℕ × ℕ)). Hears q (heard_at askers now o) q) (sym is) (hears_none q)
 
 -- a frame that is kept
 pub hears_kept : (e : Entered) (askers : List (Option Asker)) (place now : ℕ) (a b : QuerierState) → Keeps e askers → b ≡ heard a (kept_at e place) now

@@ -3,10 +3,10 @@ use Rattle.std.proofs.Common.{◌≡◌, ℕ, true, false, cond, List, Option, N
 use Rattle.std.specs.List.{list_any}
 use Rattle.br_model.specs.declared.steps.Step.{Step}
 use Rattle.br_model.specs.declared.transcript.Line.{Line}
+use Rattle.br_model.specs.Plane.LineTraits.{is_done}
 use Rattle.br_model.specs.Plane.Steps.{world_step}
 use Rattle.br_model.specs.Plane.Traits.{traits}
 use Rattle.br_model.specs.Plane.World.{World}
-use Rattle.mcast_querier.specs.Runs.{is_done}
 use Rattle.run_world.specs.Hearing.{coming_by, moment_after}
 use Rattle.mcast_querier.proofs.Moments.{PassesBy, step-passes}
 

@@ -1,8 +1,6 @@
 -- A querier on the host hears a run and asks in it, step by step.
-use Rattle.std.proofs.Common.{◌≡◌, ℕ, ◌<◌, ◌^◌, Bool, true, false, cond, List, [], ◌∷◌, ◌++◌, Option, None, Some}
+use Rattle.std.proofs.Common.{◌≡◌, ℕ, ◌<◌, ◌^◌, true, false, cond, List, [], ◌∷◌, ◌++◌, Option, None, Some}
 use Rattle.std.proofs.Common.{IfSome, OnOk, Result, Ok, Err, map, refl, sym, ◌∙◌, ap, subst, append-nil, lit<, string_bytes}
-use Rattle.std.specs.Prelude.{◌||◌}
-use Rattle.std.proofs.lemmas.List.Folds.{list_any-append}
 use Rattle.std.specs.List.{flat_map, fold, list_any}
 use Rattle.std.specs.Option.{option_map_or}
 use Rattle.std.proofs.lemmas.Grind.{flat_map-append}
@@ -10,6 +8,7 @@ use Rattle.std.proofs.lemmas.List.Sums.{fold-append}
 use Rattle.br_model.specs.declared.steps.Step.{Step}
 use Rattle.br_model.specs.declared.steps.Step.TheVariants.{Now}
 use Rattle.br_model.specs.declared.transcript.Line.{Line}
+use Rattle.br_model.specs.Plane.LineTraits.{is_done}
 use Rattle.br_model.specs.Plane.Runs.{run, then_step}
 use Rattle.br_model.specs.Plane.Steps.{world_step}
 use Rattle.br_model.specs.Plane.Traits.{traits}
@@ -22,17 +21,14 @@ use Rattle.br_model.proofs.Control.Clocks.{early as at_most}
 use Rattle.mcast_querier.specs.Election.{hears}
 use Rattle.mcast_querier.specs.Hearing.{Asker}
 use Rattle.mcast_querier.specs.Querier.{Act, Comes, Queried, QuerierState, acted, after, first_querier}
-use Rattle.mcast_querier.specs.Runs.{Listening, acts, acts_of, comes_by, entered, first_listening, heard_in, is_done, listens, query_line, sent}
+use Rattle.mcast_querier.specs.Runs.{Listening, acts, acts_of, comes_by, entered, first_listening, heard_in, listens, query_line, sent}
 use Rattle.mcast_querier.proofs.Leaving.{own-stays}
-use Rattle.transcript_lines.specs.declared.row.Row.{Row}
-use Rattle.transcript_lines.specs.declared.row.Row.TheVariants.{One, Sent, Ctl}
-use Rattle.transcript_lines.specs.Rows.{at, expand, expand_row, sent_lines}
 use Rattle.run_world.specs.declared.addresses.Addresses.{Addresses}
 use Rattle.run_world.specs.declared.asking.Asking.{Asking}
 use Rattle.run_world.specs.declared.asking.Host.{Host}
 use Rattle.run_world.specs.declared.entered.Entered.{Entered}
 use Rattle.run_world.specs.declared.voice.Voice.TheVariants.{Querier}
-use Rattle.run_world.specs.Hearing.{HasHeard, Hears, HearsStep, IsAsked, IsHost, Keeps, acts_by, coming_by, listening, moment_after, queries_by, row_is_done, ticked_by}
+use Rattle.run_world.specs.Hearing.{HasHeard, Hears, HearsStep, IsAsked, IsHost, Keeps, acts_by, coming_by, listening, moment_after, queries_by, ticked_by}
 use Rattle.plane_parts.specs.Added.{Added}
 use Rattle.run_world.specs.Worlds.{Tells}
 use Rattle.run_world.specs.Voices.{BeginsBy, HeardBy, SaysBy, lines_of}
@@ -76,28 +72,6 @@ after_early (Some moment) now h e = h
 -- a step's lines, where there were none before
 pub told_is : (w v : World) (step : Step) (before after : List Line) → Added (Tells w step v) before after → before ≡ [] → (v, after) ≡ world_step w step
 told_is w v step before after t none = ap (λ (l : List Line). (v, l)) (t.added ∙ ap (λ (l : List Line). l ++ t.lines) none) ∙ t.so
-
--- whether rows say that a step was done
-
-none_done : (id : ℕ) (ports untagged plain tagged : List ℕ) → list_any is_done (sent_lines id ports untagged plain tagged) ≡ false
-none_done id [] untagged plain tagged = refl
-none_done id (port ∷ ports) untagged plain tagged = none_done id ports untagged plain tagged
-
-or-false : (b : Bool) → b || false ≡ b
-or-false true = refl
-or-false false = refl
-
-row_done : (arena : List ℕ) (row : Row) → row_is_done row ≡ list_any is_done (expand_row arena row)
-row_done arena (One line) = sym (or-false (is_done line))
-row_done arena (Sent id ports untagged plain tagged) = sym (none_done id ports untagged (at arena plain) (at arena tagged))
-row_done arena (Ctl port bytes) = refl
-
-pub rows_done : (arena : List ℕ) (rows : List Row) → list_any row_is_done rows ≡ list_any is_done (expand arena rows)
-rows_done arena [] = refl
-rows_done arena (row ∷ rows) =
-    ap (λ b. b || list_any row_is_done rows) (row_done arena row)
-    ∙ ap (λ b. list_any is_done (expand_row arena row) || b) (rows_done arena rows)
-    ∙ sym (list_any-append is_done (expand_row arena row) (expand arena rows))
 
 -- the lines of queries, each with this moment
 pub with_moment : (moment : ℕ) (queries : List (List ℕ)) → flat_map (λ query. query_line (moment, query)) queries ≡ flat_map query_line (map (λ query. (moment, query)) queries)

@@ -1,5 +1,5 @@
 -- What is kept of the frames that have entered, and what a querier hears of them.
-use Rattle.std.specs.Prelude.{◌≡◌, ℕ, Bool, false, ◌<◌, ◌^◌, List, [], ◌∷◌, ◌++◌, if◌then◌else◌, length, get_or, map}
+use Rattle.std.specs.Prelude.{◌≡◌, ℕ, ◌<◌, ◌^◌, List, [], ◌∷◌, ◌++◌, if◌then◌else◌, length, get_or, map}
 use Rattle.std.specs.BTreeMap.{get}
 use Rattle.std.specs.List.{flat_map, fold, list_any}
 use Rattle.std.specs.Option.{option_and_then}
@@ -8,14 +8,13 @@ use Rattle.std.specs.declared.option.Option.{Option}
 use Rattle.std.specs.declared.option.Option.TheVariants.{None, Some}
 use Rattle.br_model.specs.declared.steps.Step.{Step}
 use Rattle.br_model.specs.declared.transcript.Line.{Line}
+use Rattle.br_model.specs.Plane.LineTraits.{is_done}
 use Rattle.br_model.specs.Plane.Runs.{run}
 use Rattle.br_model.specs.Plane.World.{World}
 use Rattle.br_model.specs.Table.Setup.{Setup}
-use Rattle.mcast_querier.specs.Runs.{Listening, acts, first_listening, is_done, listens, query_line, sent}
+use Rattle.mcast_querier.specs.Runs.{Listening, acts, first_listening, listens, query_line, sent}
 use Rattle.mcast_querier.specs.Hearing.{Asker, asker_in}
 use Rattle.mcast_querier.specs.Querier.{Act, Comes, QuerierState, acted, after, first_querier, queries, ticked}
-use Rattle.transcript_lines.specs.declared.row.Row.{Row}
-use Rattle.transcript_lines.specs.declared.row.Row.TheVariants.{One, Sent, Ctl}
 use Rattle.run_world.specs.declared.asking.Host.{Host}
 use Rattle.run_world.specs.declared.entered.Entered.{Entered}
 
@@ -31,12 +30,6 @@ pub record Keeps (e : Entered) (askers : List (Option Asker)) : Type 0 where
 -- these acts lead from one querier to the other, and no query leaves by them
 abbrev pub Hears : QuerierState → List Act → QuerierState → Type 0
 Hears a acts b = (out : List (ℕ × List ℕ)) → fold acted (a, out) acts ≡ (b, out)
-
--- whether one of the row's lines says that a step was done
-abbrev pub row_is_done : Row → Bool
-row_is_done (One line) = is_done line
-row_is_done (Sent id ports untagged plain tagged) = false
-row_is_done (Ctl port bytes) = false
 
 -- the moment that a step names comes where the lines say that it was done
 abbrev pub coming_by : Option ℕ → List Line → Option ℕ

@@ -1,6 +1,6 @@
 //! The general queries that a querier on the host sends in a run, as it goes on.
 ghost use Rattle.std.specs.Prelude.{◌≡◌, ◌<◌, ◌^◌, ◌++◌, [], true, false, IfOk, OnOk, IfSome, None, map, string_bytes};
-ghost use Rattle.std.specs.List.{flat_map, list_any};
+ghost use Rattle.std.specs.List.{flat_map};
 ghost use Rattle.br_model.specs.Data.Digits.{hex_of};
 ghost use Rattle.br_model.specs.Plane.Traits.{traits};
 ghost use Rattle.br_model.specs.Plane.World.{first_world};
@@ -9,9 +9,9 @@ ghost use Rattle.br_model.specs.Table.Setup.{Setup};
 ghost use Rattle.br_model.specs.Text.LineForms.{comes_by_line};
 ghost use Rattle.mcast_querier.specs.Querier.{first_querier};
 ghost use Rattle.mcast_querier.specs.Queries.{is_host_four, is_link_local_six};
-ghost use Rattle.mcast_querier.specs.Runs.{is_done, query_line as query_line_of};
+ghost use Rattle.mcast_querier.specs.Runs.{query_line as query_line_of};
 ghost use Rattle.plane_parts.specs.Added.{Added};
-ghost use Rattle.run_world.specs.Hearing.{HearsStep, IsHost, Keeps, coming_by, moment_after, queries_by, row_is_done, ticked_by};
+ghost use Rattle.run_world.specs.Hearing.{HearsStep, IsHost, Keeps, coming_by, moment_after, queries_by, ticked_by};
 ghost use Rattle.run_world.specs.Worlds.{Tells};
 ghost use Rattle.run_world.specs.Voices.{HeardBy, HostIn, SaysBy, lines_of};
 ghost use Rattle.run_world.specs.declared.voice.Voice.TheVariants as Voice;
@@ -23,12 +23,11 @@ use crate::world::World;
 use br_model::bytes::Bytes;
 use br_model::numbers::Mac;
 use br_model::steps::Step;
-use br_model::transcript::Line;
 use mcast_querier::Querier;
 use std::alloc::Global;
 use std::mem;
 use std::sync::Wait;
-use transcript_lines::{Lines, Row};
+use transcript_lines::Lines;
 
 /// A querier on the host, and what it has to know of the run.
 #[derive(Drop)]
@@ -59,55 +58,12 @@ fn moment_named(step: &Step) -> Option<u64>
     }
 }
 
-/// Whether the line says that a step was done.
-fn says_done(line: &Line) -> bool
-    ensures { result ≡ is_done line.now }
-{
-    match line {
-        Line::Done { .. } => true,
-        Line::Chip { .. }
-        | Line::Unread { .. }
-        | Line::Soft { .. }
-        | Line::Held { .. }
-        | Line::Tx { .. }
-        | Line::Ctl { .. }
-        | Line::Overrun { .. }
-        | Line::Refused { .. }
-        | Line::End { .. } => false,
-    }
-}
-
-/// The same of the lines of a row.
-fn row_says_done(row: &Row) -> bool
-    ensures { result ≡ row_is_done row.now }
-{
-    match row {
-        Row::One(line) => says_done(line),
-        Row::Sent { .. } | Row::Ctl { .. } => false,
-    }
-}
-
-/// The same of the lines of these rows.
-fn rows_say_done(rows: &[Row]) -> bool
-    ensures { result ≡ list_any row_is_done rows.now }
-{
-    rows.iter().any(|row| row_says_done(row))
-}
-
-/// The same of these lines.
-fn say_done(lines: &Lines) -> bool
-    ensures { result ≡ list_any is_done lines.now.lines }
-{
-    let (rows, _) = lines.parts();
-    rows_say_done(rows)
-}
-
 /// The moment that a step names, if these lines say that it was done.
 fn coming(named: Option<u64>, lines: &Lines) -> Option<u64>
     ensures { result ≡ coming_by named lines.now.lines }
 {
     match named {
-        Some(moment) if say_done(lines) => Some(moment),
+        Some(moment) if lines.any_done() => Some(moment),
         Some(_) | None => None,
     }
 }

@@ -106,17 +106,9 @@ impl Entered {
         requires { now < 2 ^ 53 }
         ensures { (askers : List (Option Asker)) → Keeps self.now askers → Hears querier.old (heard_in askers now line.now) querier.new }
     {
-        match line {
-            Line::Tx { id, port, .. } => self.hear_at(*id, port.number(), now, querier),
-            Line::Chip { .. }
-            | Line::Unread { .. }
-            | Line::Soft { .. }
-            | Line::Held { .. }
-            | Line::Ctl { .. }
-            | Line::Overrun { .. }
-            | Line::Done { .. }
-            | Line::Refused { .. }
-            | Line::End { .. } => {}
+        match line.leaving() {
+            Some((id, port)) => self.hear_at(id, port.number(), now, querier),
+            None => {}
         }
     }
 
