@@ -96,6 +96,8 @@ class Case:
                 self.pending.append((self.heard.get((vid, group, device), time), "member", device, vid, group))
 
     def close(self, time):
+        if self.unseen and self.window.frames and not self.window.skip and not self.is_over:
+            self.cut(time)
         self.window.end = time
         self.closing.append(self.window)
 
@@ -133,9 +135,9 @@ class Case:
         """Judges what is left."""
         if not self.is_over:
             self.quiet(time)
-            self.is_over = True
         if self.window and self.window.end is None:
             self.close(time)
+        self.is_over = True
         while self.closing:
             self.finish(self.closing.popleft())
 
@@ -351,6 +353,9 @@ class Case:
             self.routers_told.append(port)
 
     def ended(self, time):
+        """The bridge is gone, and its tables with it."""
+        self.quiet(time)
+        self.is_over = True
         self.end(time)
 
     def sync_moments(self, time):
@@ -431,6 +436,7 @@ class Case:
         cut.due = {key for key in keys if named.is_due(self, key, time)}
         cut.late = {key for key in keys if named.is_late(self, key, time)}
         cut.came = {key: self.told[key] for key in keys if key in self.told}
+        cut.recent = {(key[1], key[0] or 1) for key, moment in self.heard.items() if time - moment <= self.bounds.near}
         cut.place = len(self.model.items)
         window.cuts.append(cut)
         self.model.items.append(Item(cut=cut))

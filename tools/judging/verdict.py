@@ -94,6 +94,12 @@ def of_linux(frame):
     return seen(frame.number, frame.data, bare)
 
 
+def place_of_row(table, text):
+    """The address or group of a row of a table, and its VLAN."""
+    words = text.split(" ")
+    return (words[0], int(words[4])) if table == "fdb" else (words[3], int(words[5]))
+
+
 class Verdict:
     """The judgement of one window of a case."""
 
@@ -239,19 +245,19 @@ class Verdict:
         for table, linux in (("fdb", cut.fdb), ("mdb", cut.mdb)):
             self.looks += 1
             ours = {line.replace("dev HOST ", "dev host ") for line in run(["show", table], lines)[:-1] if "dev QUERIER " not in line}
-            for text in sorted(linux.keys() - ours):
+            differ = {text for text in linux.keys() ^ ours if place_of_row(table, text) not in cut.recent}
+            for text in sorted(differ & linux.keys()):
                 name = self.by_sources(cut, table, text) or named.of_row(self.case, linux[text], cut)
                 self.rows.append(Row(cut.time, table, text, "Linux", name))
                 if name != "late-end":
                     self.put_in(cut, table, text)
-            for text in sorted(ours - linux.keys()):
+            for text in sorted(differ & ours):
                 if text not in self.corrected:
                     self.rows.append(Row(cut.time, table, text, "switchbr", self.by_sources(cut, table, text)))
                 self.take_out(cut, table, text)
 
     def by_sources(self, cut, table, text):
-        words = text.split(" ")
-        return named.BY_SOURCES if table == "mdb" and (words[3], int(words[5])) in cut.sources else None
+        return named.BY_SOURCES if table == "mdb" and place_of_row(table, text) in cut.sources else None
 
     def take_out(self, cut, table, text):
         words = text.split(" ")

@@ -22,12 +22,13 @@ class Frame:
 
 
 class Cut:
-    """A quiet moment: the kernel's tables (rows with their keys), the keys of what is due in them, or late, when each came, the groups where
-    sources count, and the commands that set the scenario right where the tables differed."""
+    """A quiet moment, or the end of a window: the kernel's tables (rows with their keys), the keys of what is due in them, or late, when each
+    came, which (address or group, VLAN) was heard just now, the groups where sources count, and the commands that set the scenario right where
+    the tables differed."""
 
     def __init__(self, time, fdb, mdb, sources):
         self.time, self.fdb, self.mdb, self.sources, self.corrections = time, fdb, mdb, sources, []
-        self.due, self.late, self.came, self.place = set(), set(), {}, 0
+        self.due, self.late, self.came, self.recent, self.place = set(), set(), {}, set(), 0
 
 
 class Window:
