@@ -99,10 +99,10 @@ class Writer:
         self.out.write(captures.statistics(0, time, lost))
 
 
-def small(out, order="<", frames=None, ports=3, settings=(), lost=0, gap=20000, **more):
+def small(out, order="<", frames=None, ports=3, settings=(), lost=0, gap=20000, learns=True, **more):
     """A bridge of a few ports, whose devices are 2 and further ones: stations 0a, 0b and so on at them speak to all, then each to the one before.
     Or `frames` says what enters: (frame, its device or None, the devices where it leaves, netlink messages behind it..), `gap` µs apart."""
-    say, write = Messages(order), Writer(out)
+    say, write, known = Messages(order), Writer(out), set()
     links = [say.bridge(1, "br0", [(7, b"\1"), (46, say.pack("II", 1, 1))])]
     links += [say.port(index, "p%d" % index, 1, [say.state(), *settings], **more) for index in range(2, ports + 2)]
     vlans = [say.vlans(index, "p%d" % index, 1, [(1, 6)]) for index in range(2, ports + 2)] + [say.vlans(1, "br0", 1, [(1, 6)])]
@@ -110,11 +110,12 @@ def small(out, order="<", frames=None, ports=3, settings=(), lost=0, gap=20000, 
     for kind, seq, answers in ((netlink.GETLINK, 1, links), (netlink.GETLINK, 2, vlans), (netlink.GETNEIGH, 3, []), (netlink.GETMDB, 4, [])):
         for message in say.dump(kind, seq, answers):
             write.netlink(time, message)
-    for number, (data, entry, leaves, *messages) in enumerate(spoken(ports) if frames is None else frames):
+    for data, entry, leaves, *messages in spoken(ports) if frames is None else frames:
         time += gap
         if entry is not None:
             write.frame(time, entry, entry == 1, data)
-        if frames is None and number < ports:
+        if learns and entry not in (None, 1) and data[6:12] not in known:
+            known.add(data[6:12])
             write.netlink(time + 1, say.address(entry, 1, data[6:12], 1))
         for at, each in enumerate(leaves):
             write.frame(time + 2 + at, each, each != 1, data)

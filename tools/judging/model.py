@@ -63,7 +63,8 @@ class Model:
         return self.names[self.number(port)]
 
     def number_named(self, name):
-        return next(number for number, each in self.names.items() if each == name)
+        """None where no port has the name."""
+        return next((number for number, each in self.names.items() if each == name), None)
 
     def has_room(self, ports):
         """Whether there is a number for each of these ports."""

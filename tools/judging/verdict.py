@@ -272,7 +272,7 @@ class Verdict:
         self.corrected.add(text)
         if table == "mdb":
             cut.corrections.append(Item("cmd mdb add %s dev %s vlan %s" % (words[3], words[1], words[5]), may_fail=True))
-        elif words[5] == "learned" and words[2] != "host":
+        elif words[5] == "learned" and self.window.model.number_named(words[2]):
             vlans = self.window.model.vlans.get(words[2], {})
             tag = None if vlans.get(int(words[4]), (False,))[0] else int(words[4])
             cut.corrections.append(Item("cmd fdb del %s vlan %s" % (words[0], words[4]), may_fail=True))
