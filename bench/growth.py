@@ -28,51 +28,55 @@ def spoken(count):
         yield "serve"
 
 
-def flag(n):
-    """a flag off and on, of a chip port in 4,000 VLANs"""
+def switched(count, first, then):
     yield from ports(4, "chip 1")
     for vid in range(2, 4002):
         yield f"cmd vlan add vid {vid} dev p1"
-    for _ in range(n):
-        yield "cmd link p1 flood off"
-        yield "cmd link p1 flood on"
+    for _ in range(count):
+        yield f"cmd link p1 {first}"
+        yield f"cmd link p1 {then}"
+
+
+def flaps(count):
+    for _ in range(count):
+        yield "cmd port down p2"
+        yield "cmd port up p2"
+
+
+def groups(spread):
+    """1,000 groups, each of one of so many ports."""
+    for group in range(1000):
+        yield f"cmd mdb add 239.1.{group // 250}.{group % 250} dev p{1 + group % spread} vlan 1"
+
+
+def flag(n):
+    """a flag off and on, of a chip port in 4,000 VLANs"""
+    yield from switched(n, "flood off", "flood on")
 
 
 def quiet_flag(n):
     """a flag that shows in no row off and on, of a chip port in 4,000 VLANs"""
-    yield from ports(4, "chip 1")
-    for vid in range(2, 4002):
-        yield f"cmd vlan add vid {vid} dev p1"
-    for _ in range(n):
-        yield "cmd link p1 isolated on"
-        yield "cmd link p1 isolated off"
+    yield from switched(n, "isolated on", "isolated off")
 
 
 def flap(n):
     """a port down and up, nothing else"""
     yield from ports(2)
-    for _ in range(n):
-        yield "cmd port down p2"
-        yield "cmd port up p2"
+    yield from flaps(n)
 
 
 def flap_beside_addresses(n):
     """a port down and up, beside 16,384 addresses at another port"""
     yield from ports(2)
     yield from entries(16384)
-    for _ in range(n):
-        yield "cmd port down p2"
-        yield "cmd port up p2"
+    yield from flaps(n)
 
 
 def flap_beside_groups(n):
     """a port down and up, beside 1,000 groups of another port in its VLAN"""
     yield from ports(4)
-    for group in range(1000):
-        yield f"cmd mdb add 239.1.{group // 250}.{group % 250} dev p1 vlan 1"
-    for _ in range(n):
-        yield "cmd port down p2"
-        yield "cmd port up p2"
+    yield from groups(1)
+    yield from flaps(n)
 
 
 def vlan(n):
@@ -124,8 +128,7 @@ def moment(n):
 def moment_beside_groups(n):
     """a moment at which nothing ends, beside 1,000 groups"""
     yield from ports(16)
-    for group in range(1000):
-        yield f"cmd mdb add 239.1.{group // 250}.{group % 250} dev p{1 + group % 16} vlan 1"
+    yield from groups(16)
     for second in range(1, n + 1):
         yield f"now {1000 * second}"
 
@@ -133,9 +136,7 @@ def moment_beside_groups(n):
 def reported(n):
     """a frame whose source waits to be reported, behind 254 other reports"""
     yield from ports(2, "chip 1")
-    for i in range(255):
-        yield f"rx 1 0180c2000014{0x020000000000 + i:012x}88b50102"
-        yield "serve"
+    yield from spoken(255)
     for _ in range(n):
         yield f"rx 1 0180c2000014{0x0200000000FE:012x}88b50102"
         yield "serve"

@@ -14,12 +14,16 @@ def ports(count, kind="soft"):
     yield "publish"
 
 
+def broadcasts(count, payload):
+    for _ in range(count):
+        yield f"rx 1 ffffffffffff02000000000a88b5{payload}"
+        yield "serve"
+
+
 def large():
     """1,400 broadcasts to 59 ports."""
     yield from ports(59)
-    for _ in range(1400):
-        yield "rx 1 ffffffffffff02000000000a88b50102"
-        yield "serve"
+    yield from broadcasts(1400, "0102")
 
 
 def blank():
@@ -32,9 +36,7 @@ def blank():
 def frames():
     """31 broadcasts of 1,000 bytes to 63 ports."""
     yield from ports(63)
-    for _ in range(31):
-        yield "rx 1 ffffffffffff02000000000a88b5" + "0" * 1972
-        yield "serve"
+    yield from broadcasts(31, "0" * 1972)
 
 
 def links():
