@@ -12,12 +12,21 @@
  *     told STEP WORDS       the driver was told in this step
  *     fatal WORDS           the scenario ended early
  *     === end
+ *
+ * Behind a line `tree` the scenario is one of the spanning tree: its timers are those of tree.c, `stp` is switched while the bridge is
+ * down, a port that comes up gets the path cost 100, and there are lines more, of what the step changed:
+ *
+ *     ctl STEP PORT HEX     the bridge sent a message of the spanning tree by the port
+ *     state STEP PORT N     the state of the port, 0 where it isn't in the bridge
+ *     root STEP ID COST PORT     who is the root, at which cost and by which port
+ *     change STEP T D       whether a topology change is on, and whether one was detected
  */
 #define _GNU_SOURCE
 #include <arpa/inet.h>
 #include <errno.h>
 #include <fcntl.h>
 #include <linux/if_packet.h>
+#include <linux/sockios.h>
 #include <net/ethernet.h>
 #include <net/if.h>
 #include <sched.h>
@@ -26,6 +35,7 @@
 #include <stdio.h>
 #include <stdlib.h>
 #include <string.h>
+#include <sys/ioctl.h>
 #include <sys/mount.h>
 #include <sys/socket.h>
 #include <sys/wait.h>
@@ -50,6 +60,10 @@ static int pasts;
 static struct timespec start;
 static int step, frame;
 static char words[400];		/* what the last command said */
+static int tree;		/* whether the scenario is one of the spanning tree */
+static int is_mute;		/* whether its messages aren't told */
+static char state_told[PORTS], root_told[320], change_told[320];
+static int state_file[PORTS];	/* of a port that is up, or -1 */
 
 static void fatal(const char *what)
 {
@@ -64,6 +78,15 @@ static void pause_for(long microseconds)
 
 	while (nanosleep(&t, &t) && errno == EINTR)
 		;
+}
+
+/* Waits until all has happened; what the tree does has happened in the call that causes it. */
+static void settle(long microseconds)
+{
+	if (!tree)
+		pause_for(microseconds);
+	for (int i = 0; tree && i < 4; i++)
+		sched_yield();
 }
 
 /* Runs a command; gives its status, and leaves what it said in `words`. */
@@ -128,6 +151,32 @@ static int listen_on(const char *device, int type)
 	return s;
 }
 
+/* Sets flags of a device, and clears others; gives 0 where the kernel took it. */
+static int set_flags(const char *device, int set, int clear)
+{
+	struct ifreq request = { 0 };
+	int s = socket(AF_PACKET, SOCK_RAW | SOCK_CLOEXEC, 0), failed;
+
+	snprintf(request.ifr_name, IFNAMSIZ, "%s", device);
+	failed = ioctl(s, SIOCGIFFLAGS, &request);
+	request.ifr_flags = (request.ifr_flags | set) & ~clear;
+	failed = failed || ioctl(s, SIOCSIFFLAGS, &request);
+	close(s);
+	return failed;
+}
+
+/* Takes a port into the bridge, or out of it. */
+static int join(const char *device, int in)
+{
+	struct ifreq request = { .ifr_name = "br0" };
+	int s = socket(AF_PACKET, SOCK_RAW | SOCK_CLOEXEC, 0), failed;
+
+	request.ifr_ifindex = if_nametoindex(device);
+	failed = ioctl(s, in ? SIOCBRADDIF : SIOCBRDELIF, &request);
+	close(s);
+	return failed;
+}
+
 static void make_bridge(void)
 {
 	if (run("ip link add name br0 arp off up address %02x:%02x:%02x:%02x:%02x:%02x mtu 9050 type bridge vlan_filtering 1"
@@ -143,6 +192,7 @@ static void declare(int port, const char *device, int chip)
 
 	snprintf(name[port], sizeof name[port], "%s", device);
 	is_chip[port] = chip;
+	state_file[port] = -1;
 	if (chip) {
 		if (run("ip link add name %s address 02:fe:00:00:00:%02x arp off mtu 9050 type chip", device, port))
 			fatal(device);
@@ -151,7 +201,7 @@ static void declare(int port, const char *device, int chip)
 	}
 	snprintf(far, sizeof far, "far%d", port);
 	if (run("ip link add name %s address 02:fe:00:00:00:%02x mtu 9050 type veth peer name %s address 02:fd:00:00:00:%02x"
-		" mtu 9050", device, port, far, port) || run("ip link set %s arp off promisc on up", far))
+		" mtu 9050", device, port, far, port) || set_flags(far, IFF_NOARP | IFF_PROMISC | IFF_UP, 0))
 		fatal(device);
 	far_end[port] = listen_on(far, ETH_P_ALL);
 }
@@ -193,6 +243,14 @@ static int guests_own(const unsigned char *bytes)
 	return !memcmp(bytes + 6, own, 6) || (bytes[6] == 2 && (bytes[7] == 0xfe || bytes[7] == 0xfd));
 }
 
+/* Whether the port's own device sent it to the bridges' group address. */
+static int is_message_of(int port, const unsigned char *bytes)
+{
+	const unsigned char addresses[12] = { 1, 0x80, 0xc2, 0, 0, 0, 2, 0xfe, 0, 0, 0, port };
+
+	return !memcmp(bytes, addresses, 12);
+}
+
 /* Takes what waits at a socket; writes what its device received, or what it sent, where `told`. */
 static void drain(int s, int port, int wants_sent, int told)
 {
@@ -200,9 +258,14 @@ static void drain(int s, int port, int wants_sent, int told)
 	int length, sent;
 
 	while ((length = take(s, bytes, &sent)) >= 0) {
-		if (!told || sent != wants_sent || guests_own(bytes))
+		int is_message = tree && !is_mute && port && sent == wants_sent && is_message_of(port, bytes);
+
+		if (!is_message && (!told || sent != wants_sent || guests_own(bytes)))
 			continue;
-		printf("tx %d %d ", frame, port);
+		if (is_message)
+			printf("ctl %d %d ", step, port);
+		else
+			printf("tx %d %d ", frame, port);
 		for (int i = 0; i < length; i++)
 			printf("%02x", bytes[i]);
 		printf("\n");
@@ -294,7 +357,7 @@ static void enter(int port, const char *hex, const char *handed)
 	if (is_chip[port] ? drive("rx %s %d %s", name[port], !strcmp(handed, "copy"), hex)
 			  : send(far_end[port], bytes, length, 0) != length)
 		fatal("send");
-	pause_for(SETTLE);
+	settle(SETTLE);
 	drain_all(1);
 }
 
@@ -312,6 +375,42 @@ static char port_state(const char *device)
 	return state;
 }
 
+/* Writes a number to a file; gives 0 where the kernel took it. */
+static int write_number(const char *path, long number)
+{
+	int file = open(path, O_WRONLY | O_CLOEXEC), failed;
+
+	failed = file < 0 || dprintf(file, "%ld", number) < 0;
+	close(file);
+	return failed;
+}
+
+static int set_port(const char *device, const char *what, long number)
+{
+	char path[100];
+
+	snprintf(path, sizeof path, "/sys/class/net/%s/brport/%s", device, what);
+	return write_number(path, number);
+}
+
+static int set_bridge(const char *what, long number)
+{
+	char path[100];
+
+	snprintf(path, sizeof path, "/sys/class/net/br0/bridge/%s", what);
+	return write_number(path, number);
+}
+
+/* Has the clock of tree.c do what the words say. */
+static void clock_tree(const char *line)
+{
+	int file = open("/proc/tree", O_WRONLY | O_CLOEXEC);
+
+	if (file < 0 || dprintf(file, "%s", line) < 0)
+		fatal("/proc/tree");
+	close(file);
+}
+
 static int port_command(const char *what, const char *device)
 {
 	int port = 1, status;
@@ -324,13 +423,27 @@ static int port_command(const char *what, const char *device)
 	}
 	if (up[port]) {
 		up[port] = 0;
-		return run("ip link set %s nomaster", device);
+		if (state_file[port] >= 0)
+			close(state_file[port]);
+		state_file[port] = -1;
+		return join(device, 0);
 	}
-	status = run("ip link set %s master br0 up", device);
+	status = join(device, 1) || set_flags(device, IFF_UP, 0) || (tree && set_port(device, "path_cost", 100));
 	up[port] = !status;
 	for (int i = 0; i < 200 && !status && port_state(device) < '1'; i++)
 		pause_for(5000);
 	return status;
+}
+
+/* Switches the spanning tree while the bridge is down, so that every port begins anew; what it sends as it goes down isn't told. */
+static int switch_tree(int on)
+{
+	int failed = tree && set_flags("br0", 0, IFF_UP);
+
+	is_mute = 1;
+	drain_all(0);
+	is_mute = 0;
+	return failed || set_bridge("stp_state", on) || (tree && set_flags("br0", IFF_UP, 0));
 }
 
 static int delete_address(const char *address, const char *vlan)
@@ -348,9 +461,9 @@ static int command(int n, char **w)
 	if (IS(0, "port") && n == 3)
 		return port_command(w[1], w[2]);
 	if (IS(0, "link") && IS(2, "cost"))
-		return run("bridge link set dev %s cost %s", w[1], w[3]);
+		return set_port(w[1], "path_cost", atol(w[3]));
 	if (IS(0, "link") && IS(2, "priority"))
-		return run("bridge link set dev %s priority %d", w[1], atoi(w[3]) / 4);
+		return set_port(w[1], "priority", atol(w[3]) / 4);
 	if (IS(0, "link") && n == 4)
 		return run("bridge link set dev %s %s %s", w[1], w[2], w[3]);
 	if (IS(0, "vlan") && n >= 6)
@@ -367,13 +480,13 @@ static int command(int n, char **w)
 		return run("bridge mdb %s dev br0 port %s grp %s %s vid %s", w[1], IS(4, "host") ? "br0" : w[4], w[2],
 			   IS(4, "host") || IS(1, "del") ? "" : "permanent", w[6]);
 	if (IS(0, "stp") && IS(1, "priority"))
-		return run("ip link set br0 type bridge priority %s", w[2]);
+		return set_bridge("priority", atol(w[2]));
 	if (IS(0, "stp"))
-		return run("ip link set br0 type bridge stp_state %d", IS(1, "on"));
+		return switch_tree(IS(1, "on"));
 	if (IS(0, "ageing"))
-		return run("ip link set br0 type bridge ageing_time %ld", atol(w[1]) * 100);
+		return set_bridge("ageing_time", atol(w[1]) * 100);
 	if (IS(0, "snooping"))
-		return run("ip link set br0 type bridge mcast_snooping %d", IS(1, "on"));
+		return set_bridge("multicast_snooping", IS(1, "on"));
 	fatal("a command that the guest can't carry out");
 	return 1;
 }
@@ -391,13 +504,64 @@ static void sleep_until(long milliseconds)
 		;
 }
 
+/* What a file of /sys has, without its line feed; the file is opened once, and has the place -1 before. */
+static const char *read_again(int *place, const char *path)
+{
+	static char text[100];
+	int length;
+
+	if (*place < 0)
+		*place = open(path, O_RDONLY | O_CLOEXEC);
+	length = pread(*place, text, sizeof text - 1, 0);
+	text[length > 0 ? length : 0] = 0;
+	text[strcspn(text, "\n")] = 0;
+	return text;
+}
+
+/* Writes what of the tree is otherwise than it was told last. */
+static void tell_tree(void)
+{
+	static int files[5] = { -1, -1, -1, -1, -1 };
+	static const char *const names[5] = { "root_id", "root_path_cost", "root_port", "topology_change", "topology_change_detected" };
+	char path[100], now[2][sizeof root_told] = { "", "" };
+
+	drain_all(0);
+	for (int i = 1; i < PORTS; i++) {
+		if (!name[i][0])
+			continue;
+		snprintf(path, sizeof path, "/sys/class/net/%s/brport/state", name[i]);
+		char state = up[i] ? *read_again(&state_file[i], path) : '0';
+
+		if (state != state_told[i])
+			printf("state %d %d %c\n", step, i, state_told[i] = state);
+	}
+	for (int i = 0; i < 5; i++) {
+		snprintf(path, sizeof path, "/sys/class/net/br0/bridge/%s", names[i]);
+		strcat(strcat(now[i > 2], " "), read_again(&files[i], path));
+	}
+	if (strcmp(now[0], root_told))
+		printf("root %d%s\n", step, strcpy(root_told, now[0]));
+	if (strcmp(now[1], change_told))
+		printf("change %d%s\n", step, strcpy(change_told, now[1]));
+}
+
 static void answer(int failed)
 {
 	if (failed)
 		printf("refused %d %s\n", step, words);
 	else
 		printf("ok %d\n", step);
-	pause_for(1000);
+	settle(1000);
+}
+
+static void pass_to(const char *moment)
+{
+	char line[40];
+
+	sleep_until(atol(moment));
+	snprintf(line, sizeof line, "now %s", moment);
+	if (tree)
+		clock_tree(line);
 }
 
 static void do_step(int n, char **w)
@@ -410,10 +574,23 @@ static void do_step(int n, char **w)
 	else if (IS(0, "rx") && n >= 3)
 		enter(atoi(w[1]), w[2], n > 3 ? w[3] : "");
 	else if (IS(0, "now") && n == 2)
-		sleep_until(atol(w[1]));
+		pass_to(w[1]);
 	else
 		return;	/* serve, publish and turn: the kernel has done it */
-	hear(1);
+	if (tree)
+		tell_tree();
+	else
+		hear(1);
+}
+
+static void begin(void)
+{
+	make_bridge();
+	if (tree)
+		clock_tree("on");
+	else
+		hear(0);
+	clock_gettime(CLOCK_MONOTONIC, &start);
 }
 
 static void scenario(FILE *file)
@@ -427,20 +604,21 @@ static void scenario(FILE *file)
 		for (n = 0, rest = line; n < 39 && (w[n] = strsep(&rest, " "));)
 			n += *w[n] != 0;
 		if (IS(0, "end"))
-			return;
+			break;
+		if (IS(0, "tree"))
+			tree = 1;
 		if (IS(0, "bridge")) {
 			sscanf(w[1], "%hhx:%hhx:%hhx:%hhx:%hhx:%hhx", own, own + 1, own + 2, own + 3, own + 4, own + 5);
 		} else if (IS(0, "port")) {
 			declare(atoi(w[1]), w[2], IS(3, "chip"));
-		} else if (n && !IS(0, "scenario")) {
-			if (host < 0) {
-				make_bridge();
-				hear(0);
-				clock_gettime(CLOCK_MONOTONIC, &start);
-			}
+		} else if (n && !IS(0, "scenario") && !IS(0, "tree")) {
+			if (host < 0)
+				begin();
 			do_step(n, w);
 		}
 	}
+	if (tree && !run("ip link del br0"))
+		clock_tree("off");
 }
 
 static void own_namespace(void)

@@ -1,6 +1,7 @@
 """Boots the kernel that `setup` made, in QEMU."""
 import os
 import subprocess
+import tempfile
 
 PEER = os.environ.get("KERNEL_PEER", os.path.expanduser("~/.cache/switchbr-kernel"))
 # With the instructions counted a sleeping guest costs no time; KVM is faster where much is computed.
@@ -47,3 +48,42 @@ def run(root, words, accelerator, memory, limit):
     paths = ":".join([libraries, os.path.join(libraries, "pulseaudio"), os.path.join(host, "lib/x86_64-linux-gnu")])
     environment = dict(os.environ, LD_LIBRARY_PATH=paths, QEMU_MODULE_DIR=os.path.join(libraries, "qemu"))
     subprocess.run(command, env=environment, timeout=limit, check=True)
+
+
+def lines(files, limit):
+    """What the guest wrote, of one boot with these files; a sleeping guest costs no time."""
+    with tempfile.TemporaryDirectory() as place:
+        root, out = os.path.join(place, "initrd"), os.path.join(place, "out")
+        write_root(root, "root.cpio", files)
+        try:
+            run(root, ["-serial", "file:" + out + ".console", "-serial", "file:" + out], EMULATED, 512, limit)
+        except subprocess.TimeoutExpired:
+            print("the kernel was stopped after %d s" % limit)
+        with open(out, errors="replace") as file:
+            return file.read().splitlines()
+
+
+def release():
+    """The version of the kernel that is booted."""
+    with open(os.path.join(PEER, "kernel")) as file:
+        return file.read().strip().rpartition("vmlinuz-")[2]
+
+
+def here(script, limit):
+    """What the commands write in a network namespace of this machine's own kernel; it takes root, and the seconds that they sleep."""
+    begin = "mount --make-rprivate / && mount -t sysfs none /sys && "
+    done = subprocess.run(["unshare", "-n", "-m", "sh", "-c", begin + "true\n" + script], stdout=subprocess.PIPE, stderr=subprocess.STDOUT,
+                          text=True, timeout=limit)
+    return done.stdout.splitlines()
+
+
+def scenarios(texts, limit):
+    """What the guest wrote of each scenario by name, from the texts by name."""
+    written = lines({"job/scenarios": "".join("=== %s\n%s" % each for each in texts).encode()}, limit)
+    told, name, start = {}, None, 0
+    for number, line in enumerate(written):
+        if line == "=== end" and name is not None:
+            told[name], name = written[start:number], None
+        elif line.startswith("=== ") and line != "=== end":
+            name, start = line[4:], number + 1
+    return told
