@@ -362,11 +362,14 @@ def tell(judged):
     return counts["differ"] == counts["broken"] == 0 < counts["scenarios"]
 
 
-def compare_source(program, todo):
-    """Whether scenarios are the same by the kernel's sources in a process: all but what frames do."""
+def compare_source(program, todo, folder=None):
+    """Whether scenarios are the same by the kernel's sources in a process: all but what frames do. Of a folder see `compare`."""
     def one(scenario):
         done = subprocess.run([SOURCE], input=scenario.kernel_text(), stdout=subprocess.PIPE, text=True, timeout=60)
-        return scenario.name, judge(program, scenario, done.stdout.splitlines())
+        counts, words = judge(program, scenario, done.stdout.splitlines())
+        if folder and not words:
+            keep(folder, scenario, done.stdout.splitlines())
+        return scenario.name, (counts, words)
 
     with concurrent.futures.ThreadPoolExecutor() as pool:
         return tell(list(pool.map(one, todo)))
