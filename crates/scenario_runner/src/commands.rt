@@ -25,8 +25,8 @@ use run_io::sources::Source;
 use run_status::{Status, Stop, end_with, end_without_memory, put_last};
 use run_world::voice::Voice;
 use run_world::{Asking, Monitor};
-use scenario_reader::Last;
 use scenario_generator::{Generator, append_opening};
+use scenario_reader::Last;
 use std::alloc::Global;
 use std::sync::Wait;
 
