@@ -115,13 +115,6 @@ fn a_copy_is_what_stands_behind_the_savepoint(rt: HostRuntime) {
     assert_rows(&rt, &lines.copy_out(rt.alloc()), 0);
 }
 
-fn refused() -> Line {
-    Line::Refused {
-        step: 2,
-        refusal: Refusal::NothingWaiting,
-    }
-}
-
 fn is_refused(line: &Line) -> bool {
     matches!(line.refusal(), Some(Refusal::NothingWaiting))
 }
@@ -133,10 +126,14 @@ fn refuses(row: &Row) -> bool {
 
 #[test]
 fn a_line_says_how_its_step_ended(rt: HostRuntime) {
-    assert_that(&rt, is_refused(&refused()), "a refusal");
     assert_that(&rt, lines(&rt, rt.alloc()).any_done(), "step 1 was done");
     let mut lines = saved(&rt, rt.alloc());
-    lines.push(refused()).expect(&rt, "memory");
+    let line = Line::Refused {
+        step: 2,
+        refusal: Refusal::NothingWaiting,
+    };
+    assert_that(&rt, is_refused(&line), "a refusal");
+    lines.push(line).expect(&rt, "memory");
     let (rows, _) = lines.parts();
     assert!(rt; rows.len() == 4);
     assert_that(&rt, refuses(&rows[3]), "step 2 is refused");
