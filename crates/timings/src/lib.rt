@@ -1,0 +1,4 @@
+//! Every timing: what the moments at which chips apply their updates may change, and what they can't. It has laws alone.
+#![tactic(auto)]
+
+pub mod laws;
