@@ -64,9 +64,11 @@ pub record IsTiming (setup : Setup) (marks : List Mark) (t : Timing) : Type 0 wh
   pub observed : observed t ≡ marks
   pub stands : stands_from (first_world setup, []) t ≡ true
 
--- ports at which nobody looks, and what was seen of a frame with an id: where it left, and its bytes there
+-- ports at which nobody looks, frames of which isn't known what became of them, and what was seen of a frame with an id: where it left,
+-- and its bytes there
 pub record Sights : Type 0 where
   pub blind : List ℕ
+  pub ignored : List ℕ
   pub saw : List (ℕ × ℕ × List ℕ)
 
 abbrev pub is_blind : Sights → ℕ → Bool
@@ -79,17 +81,23 @@ watched s sent = in_port_order (filter (λ x. not (is_blind s x.0)) sent)
 abbrev pub seen_of_frame : Sights → ℕ → Sent
 seen_of_frame s id = watched s (map (λ x. (x.1, x.2)) (filter (λ x. x.0 == id) s.saw))
 
--- The lines of the frame with this id are exactly what was seen of it.
+abbrev pub is_ignored : Sights → ℕ → Bool
+is_ignored s id = list_any (λ i. i == id) s.ignored
+
+-- What was sent of the frame with this id is exactly what was seen of it, where that is known.
+abbrev pub IsFit : Sights → ℕ → Sent → Type 0
+IsFit s id sent = is_ignored s id ≡ false → watched s sent ≡ seen_of_frame s id
+
 abbrev pub IsExplained : Sights → ℕ → List Line → Type 0
-IsExplained s id told = watched s (sent_of id told) ≡ seen_of_frame s id
+IsExplained s id told = IsFit s id (sent_of id told)
 
 -- The timing explains the frames below this id.
 abbrev pub Explains : Setup → Sights → ℕ → Timing → Type 0
 Explains setup s next t = (id : ℕ) → 1 ≤ id → id < next → IsExplained s id (timing setup t).1
 
--- how many updates the chip of the domain has applied when the frame with this id enters: at the point of the timing before it
-abbrev pub count_at : Stepped → ℕ → ℕ
-count_at x dom = option_map_or (λ (c : Chip). c.count) (chip_at x.0 dom) 0
+-- how many updates the chip of the domain has applied, and none where there is no chip
+abbrev pub count_at : World → ℕ → ℕ
+count_at w dom = option_map_or (λ (c : Chip). c.count) (chip_at w dom) 0
 
 -- what is sent of a frame that enters now, as Linux plays it
 abbrev pub frame_sent : World → ℕ → List ℕ → Sent

@@ -1,6 +1,6 @@
 -- The answer of `explain`: turn until the frame is explained.
 -- Source: this profile.
-use Rattle.std.specs.Prelude.{ℕ, ◌-◌, ◌==◌, zero, suc, Bool, true, false, ◌&&◌, if◌then◌else◌, List, [], ◌∷◌, min}
+use Rattle.std.specs.Prelude.{ℕ, ◌-◌, ◌==◌, zero, suc, Bool, true, false, ◌&&◌, ◌||◌, if◌then◌else◌, List, [], ◌∷◌, min}
 use Rattle.std.specs.Option.{option_map_or}
 use Rattle.std.specs.declared.option.Option.{Option}
 use Rattle.std.specs.declared.option.Option.TheVariants.{None, Some}
@@ -12,7 +12,7 @@ use Rattle.br_model.specs.Plane.World.{World, Stepped, chip_at, first_world}
 use Rattle.br_model.specs.Table.Domains.{domain_of}
 use Rattle.br_model.specs.Table.Setup.{Setup}
 use Rattle.timings.specs.Timings.{Commands, Comes, Enters, plays, turned}
-use Rattle.timings.specs.Explained.{Mark, Sees, Applied, Sights, Timing, goes, seen_of_frame, updates_in, watched}
+use Rattle.timings.specs.Explained.{Mark, Sees, Applied, Sights, Timing, goes, is_ignored, seen_of_frame, updates_in, watched}
 
 abbrev pub same_bytes : List ℕ → List ℕ → Bool
 same_bytes [] [] = true
@@ -35,10 +35,14 @@ abbrev pub least_from : (ℕ → Bool) → ℕ → ℕ → Option ℕ
 least_from p n zero = if p n then Some n else None
 least_from p n (suc more) = if p n then Some n else least_from p (suc n) more
 
+-- whether what was sent of the frame with this id is what was seen of it, or that isn't known
+abbrev pub fits : Sights → ℕ → Sent → Bool
+fits s id sent = is_ignored s id || same_sent (watched s sent) (seen_of_frame s id)
+
 -- whether the frame that enters is explained after so many turns
 abbrev pub fits_after : Sights → Stepped → ℕ → ℕ → List ℕ → ℕ → Bool
 fits_after s x dom port bytes k =
-    same_sent (watched s (sent_of x.0.next (plays (turned x (repeated dom k)) (Enters port bytes)).1)) (seen_of_frame s x.0.next)
+    fits s x.0.next (sent_of x.0.next (plays (turned x (repeated dom k)) (Enters port bytes)).1)
 
 abbrev pub turns_for : Sights → Stepped → ℕ → List ℕ → Option Chip → Option (List ℕ)
 turns_for s x port bytes None = if fits_after s x 0 port bytes 0 then Some [] else None
