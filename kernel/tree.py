@@ -25,7 +25,7 @@ import trees
 
 SECOND = 256  # of a message's age
 SHOWN = 10
-EARLY, LATE = 4, 40  # how much younger or older a message of the guest may be: the steps of a moment need time there
+SLACK = 32  # by how much of a second's 256 parts a message of the guest may be younger or older: a port that comes or goes takes it some 30 ms
 TCN, CONFIG = "80", "00"
 ASKING = "020000000f%02x"
 MORE, MORE_NUMBER = "more", 254
@@ -197,7 +197,7 @@ def same_messages(ours, linux):
 def same_age(data, other):
     """The root tells no age; else ours is older by a second."""
     age, its = int(data[88:92], 16), int(other[88:92], 16)
-    return age == its == 0 or -EARLY <= its - (age - SECOND) <= LATE
+    return age == its == 0 or abs(its - (age - SECOND)) <= SLACK
 
 
 def other_bytes(ours, linux, ranges):

@@ -1,7 +1,8 @@
 """Random scenarios of the spanning tree, of steps in which no difference of docs/KERNEL.md shows.
 
 What they keep off is said where they do. Moments are half a second or a second apart, and a `now` stands at each, so that whatever is due
-has a moment of its own: messages, commands and frames that teach come there, and frames to stations half-way to the next.
+has a moment of its own: messages, commands and some frames come there, stations are learned a quarter of the way to the next one, and frames
+to them come half-way.
 """
 import random
 
@@ -10,6 +11,7 @@ import frames
 KIND = "# A scenario of the tree."
 GROUP = "0180c2000000"
 STATIONS = ["0200000000%02x" % (0x10 + i) for i in range(4)]
+UNKNOWN, ASKER = "0200000000ee", "0200000000dd"  # who never sends, and to whom nobody does
 SECOND = 256  # of a message's times
 # What a scenario is about: several neighbours with the same times; one with any times and flags; one with any forward delay
 SEVERAL, ONE, DELAY = range(3)
@@ -43,6 +45,7 @@ class Maker:
         # Of equal vectors at two ports the lower port is the root port; Linux takes a new priority of a port into account late.
         self.has_ties = self.chance(.4)
         self.quiet_until, self.ageing = 0, 300
+        self.taught = []  # (port, station), to be learned
         self.neighbours = [self.random.choice([4096, 32768, 61440]) << 48 | 0x02000000b000 + i for i in range(1, 5)]
         self.roots = sorted(self.neighbours[:2] + [self.random.choice([0, 32768]) << 48 | 0x02000000a001])
         self.priorities = [4096, 8192, 32768, 40960, 65535]
@@ -79,10 +82,13 @@ class Maker:
         """Linux forgets what it learned when the bridge goes down, so all has ended by then; and it sends nothing as the bridge comes up, so
         that no port is held yet."""
         if on != self.on:
-            self.ageing = 1
-            for _ in range(2000 // self.grid if self.clock else 0):
-                self.pass_on(True)
-            self.ageing = 300
+            self.learn()
+            if self.clock:
+                self.ageing = 1
+                for _ in range(2000 // self.grid):
+                    self.pass_on(True)
+                self.ageing = 300
+                self.next_moment()
             if on and self.up:
                 self.lines.append("# Linux differs: nothing is sent at once")
                 self.quiet_until = self.clock + 2000
@@ -180,17 +186,29 @@ class Maker:
     # ---- frames ----
 
     def teach(self):
-        self.rx(self.random.choice(self.ports), frames.ethernet(frames.BROADCAST, self.random.choice(STATIONS)))
+        """A frame, and a station that sends one soon behind: an address is never too old at a moment at which a topology change may end."""
+        self.rx(self.random.choice(self.ports), frames.ethernet(frames.BROADCAST, ASKER))
+        self.taught.append((self.random.choice(self.ports), self.random.choice(STATIONS)))
+
+    def learn(self):
+        if self.taught:
+            self.lines.append("now %d" % (self.clock + self.grid // 4))
+        for port, station in self.taught:
+            self.rx(port, frames.ethernet(frames.BROADCAST, station))
+        self.taught = []
 
     def look(self):
         """Linux collects what is too old at its own times, but also when the ageing time is set."""
         self.lines += ["now %d" % (self.clock + self.grid // 2), "cmd ageing %d" % self.ageing]
         for _ in range(self.random.randrange(3)):
-            self.rx(self.random.choice(self.ports), frames.ethernet(self.random.choice(STATIONS + ["0200000000ee"]), "0200000000dd"))
+            self.rx(self.random.choice(self.ports), frames.ethernet(self.random.choice(STATIONS + [UNKNOWN]), ASKER))
 
     def happen(self):
-        """What comes at a moment."""
+        """What comes at a moment; nothing more once that has taken moments."""
+        began = self.clock
         for _ in range(self.random.choice([0, 0, 1, 1, 2, 3])):
+            if self.clock != began:
+                return
             kind = self.random.randrange(10)
             if kind < 6 and self.on:
                 self.message()
@@ -199,14 +217,17 @@ class Maker:
             else:
                 self.any_command()
 
-    def pass_on(self, quiet=False):
+    def next_moment(self):
         self.clock += self.grid
         self.lines.append("now %d" % self.clock)
         self.tell_again()
+
+    def pass_on(self, quiet=False):
+        self.next_moment()
         if not quiet:
             self.happen()
-        if self.clock % 1000 == 0:
-            self.look()
+            self.learn()
+        self.look()
 
     def choose_steady(self):
         if self.kind == DELAY and self.steady is None:
