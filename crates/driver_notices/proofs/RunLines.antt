@@ -1,5 +1,5 @@
 -- What the lines of a run say: its changes, its queue, and what comes to a chip.
-use Rattle.std.proofs.Common.{◌≡◌, ℕ, ◌+◌, List, [], ◌∷◌, ◌++◌, length, map, refl, sym, ap, subst, ◌∙◌}
+use Rattle.std.proofs.Common.{◌≡◌, ℕ, ◌+◌, List, [], ◌∷◌, ◌++◌, length, map, refl, sym, ap, subst, ◌∙◌, arith}
 use Rattle.std.specs.List.{enumerate_from, flat_map, fold}
 use Rattle.std.proofs.lemmas.Grind.{flat_map-append}
 use Rattle.std.proofs.lemmas.List.{map-append}
@@ -70,16 +70,22 @@ queue-numbered edition h = all (enumerate_from 0 (deferred_of edition h))
     all [] = refl
     all (x ∷ xs) = ap (λ l. (x.0 + 1, x.1) ∷ l) (all xs)
 
-pub numbered-append : (n : ℕ) (cs ds : List Change) → numbered_from n (cs ++ ds) ≡ numbered_from n cs ++ numbered_from (n + length cs) ds
+numbered-append : (n : ℕ) (cs ds : List Change) → numbered_from n (cs ++ ds) ≡ numbered_from n cs ++ numbered_from (n + length cs) ds
 numbered-append n cs ds =
     ap (map (λ x. (x.0 + 1, x.1))) (enumerate-append n cs ds)
     ∙ map-append (λ x. (x.0 + 1, x.1)) (enumerate_from n cs) (enumerate_from (n + length cs) ds)
+
+-- from the first number on
+pub numbered-behind : (cs ds : List Change) → numbered_from 0 (cs ++ ds) ≡ numbered_from 0 cs ++ numbered_from (length cs) ds
+numbered-behind cs ds =
+    let e : 0 + length cs ≡ length cs = omega arith in
+    numbered-append 0 cs ds ∙ ap (λ n. numbered_from 0 cs ++ numbered_from n ds) e
 
 queue-append : (edition : Edition) (h cs : List Change) → queue edition (h ++ cs) ≡ queue edition h ++ numbered_from (deferred_count edition h) (deferred_of edition cs)
 queue-append edition h cs =
     queue-numbered edition (h ++ cs)
     ∙ ap (numbered_from 0) (filter-append (deferred edition) h cs)
-    ∙ numbered-append 0 (deferred_of edition h) (deferred_of edition cs)
+    ∙ numbered-behind (deferred_of edition h) (deferred_of edition cs)
     ∙ ap (λ l. l ++ numbered_from (deferred_count edition h) (deferred_of edition cs)) (sym (queue-numbered edition h))
 
 Queues : World → List NoticeLine → Type 0

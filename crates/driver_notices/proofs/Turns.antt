@@ -1,11 +1,11 @@
 -- What the chip of a domain takes from its queue is the beginning of the queue.
 use Rattle.std.proofs.Common.{◌≡◌, ℕ, zero, suc, ◌+◌, ◌≤◌, Bool, true, false, not, cond, List, [], ◌∷◌, ◌++◌, length, map, take, Option, None, Some, refl, sym, ap, subst, ◌∙◌, arith}
 use Rattle.std.specs.Prelude.{◌==◌, if◌then◌else◌}
-use Rattle.std.specs.List.{enumerate_from, flat_map}
-use Rattle.std.specs.Option.{option_map, option_to_list}
+use Rattle.std.specs.List.{enumerate_from, flat_map, list_any}
+use Rattle.std.specs.Option.{is_some, option_map, option_to_list}
 use Rattle.std.proofs.lemmas.Bool.{eqb-true}
 use Rattle.std.proofs.lemmas.Grind.{flat_map-append}
-use Rattle.std.proofs.lemmas.List.{append-nil, length-take, take-map}
+use Rattle.std.proofs.lemmas.List.{length-take-le}
 use Rattle.std.proofs.lemmas.List.Elements.{filter-append}
 use Rattle.br_model.specs.declared.change.Change.{Change}
 use Rattle.br_model.specs.declared.domains.Edition.{Edition}
@@ -16,18 +16,20 @@ use Rattle.br_model.specs.Plane.Runs.{run}
 use Rattle.br_model.specs.Plane.Steps.{world_step}
 use Rattle.br_model.specs.Plane.World.{World, chip_at, first_world, next_of}
 use Rattle.br_model.specs.Table.Change.{deferred}
+use Rattle.br_model.specs.Table.Domains.{has_chip}
 use Rattle.br_model.specs.Table.Cut.{deferred_count, deferred_of, synchronous_of}
 use Rattle.br_model.specs.Table.Setup.{Setup}
-use Rattle.br_model.specs.Theorems.Applied.{accepted_in, applied_in, turned_in}
+use Rattle.br_model.specs.Theorems.Applied.{accepted_in, applied, applied_in, turned_in}
 use Rattle.br_model.specs.Theorems.Invariants.{IsWorld}
 use Rattle.br_model.proofs.Plane.Applied.{Applies, AppliesAt, run-applies, run-setup, step-applies, step-setup}
-use Rattle.br_model.proofs.Plane.Kept.{chip-stands}
+use Rattle.br_model.proofs.Plane.Chips.{chip-there}
+use Rattle.br_model.proofs.Plane.Kept.{chip-stands, step-world}
 use Rattle.br_model.proofs.Table.Cuts.{deferred_at-deferred}
 use Rattle.driver_notices.specs.declared.line.NoticeLine.{NoticeLine}
 use Rattle.driver_notices.specs.declared.line.NoticeLine.TheVariants.{Applied}
 use Rattle.driver_notices.specs.Notices.{lines, lines_in, taken}
 use Rattle.driver_notices.specs.Views.{queue, reached_by, taken_by}
-use Rattle.driver_notices.proofs.RunLines.{numbered-append, queue-numbered, run-keeps, run-reached}
+use Rattle.driver_notices.proofs.RunLines.{numbered-behind, queue-numbered, run-keeps, run-reached}
 use Rattle.driver_notices.proofs.StepLines.{numbered_from, of-taken, other-taken, step-reached}
 
 none-deferred : (edition : Edition) (cs : List Change) → deferred_of edition (synchronous_of edition cs) ≡ []
@@ -52,7 +54,7 @@ more-numbered : (edition : Edition) (took more : List (ℕ × Change)) (came com
 more-numbered edition took more came coming is so =
     ap (λ l. l ++ more) is
     ∙ ap (λ l. numbered_from 0 (deferred_of edition came) ++ l) so
-    ∙ sym (numbered-append 0 (deferred_of edition came) (deferred_of edition coming))
+    ∙ sym (numbered-behind (deferred_of edition came) (deferred_of edition coming))
     ∙ ap (numbered_from 0) (sym (filter-append (deferred edition) came coming))
 
 module _ (dom : ℕ) (w : World) (came : List Change) (k : IsWorld w) (a : AppliesAt dom w came) where
@@ -61,7 +63,7 @@ module _ (dom : ℕ) (w : World) (came : List Change) (k : IsWorld w) (a : Appli
 
   -- the chip has taken as many as came to it
   count-came : (c : Chip) → chip_at w dom ≡ Some c → length (deferred_of edition came) ≡ c.count
-  count-came c at = ap length (a c at).deferred ∙ length-take c.count (deferred_of edition w.history) (chip-stands w dom c k at).applied
+  count-came c at = ap length (a c at).deferred ∙ length-take-le c.count (deferred_of edition w.history) (chip-stands w dom c k at).applied
 
   next-taken : (c : Chip) → chip_at w dom ≡ Some c → (o : Option Change) → next_of w c ≡ o → (e : ℕ) → (e == dom) ≡ true
       → flat_map (taken_by dom) (option_to_list (option_map (Applied (w.steps + 1) e (c.count + 1)) o))
@@ -112,3 +114,53 @@ take-numbered : (n k : ℕ) (cs : List Change) → numbered_from n (take k cs) �
 take-numbered n zero cs = refl
 take-numbered n (suc k) [] = refl
 take-numbered n (suc k) (c ∷ cs) = ap (λ l. (n + 1, c) ∷ l) (take-numbered (n + 1) k cs)
+
+first-takes : (setup : Setup) (dom : ℕ) → Takes dom (first_world setup) []
+unfolding run applied
+first-takes setup dom = record { applies = run-applies setup [] dom; numbered = refl }
+
+pub run-taken : (setup : Setup) (steps : List Step) (dom : ℕ) (c : Chip) → chip_at (run setup steps).0 dom ≡ Some c
+    → flat_map (taken_by dom) (lines setup steps) ≡ take c.count (queue setup.domains.edition (run setup steps).0.history)
+run-taken setup steps dom c at =
+    let edition = setup.domains.edition in
+    let history = (run setup steps).0.history in
+    let t = run-keeps (Takes dom) (takes dom) setup steps (first-takes setup dom) in
+    let numbered = subst (λ (s : Setup). IsNumbered s.domains.edition (flat_map (taken_by dom) (lines setup steps)) (flat_map (reached_by dom) (lines setup steps))) (run-setup setup steps) t.numbered in
+    numbered
+    ∙ ap (λ (l : List Change). numbered_from 0 (deferred_of edition l)) (run-reached setup steps dom)
+    ∙ ap (numbered_from 0) (run-applies setup steps dom c at).deferred
+    ∙ take-numbered 0 c.count (deferred_of edition history)
+    ∙ ap (take c.count) (sym (queue-numbered edition history))
+
+-- Where there is no chip, nothing is taken.
+
+chip-exists : (w : World) (dom : ℕ) → IsWorld w → is_some (chip_at w dom) ≡ has_chip w.setup.domains dom
+chip-exists w dom k = chip-there w.chips dom ∙ ap (list_any (λ d. d == dom)) k.doms
+
+step-none : (w : World) (dom : ℕ) (step : Step) → is_some (chip_at w dom) ≡ false → flat_map (taken_by dom) (lines_in w step) ≡ []
+step-none w dom (Turn e) none =
+    (elim (e == dom) as (λ b. (e == dom) ≡ b → flat_map (taken_by dom) (taken (w.steps + 1) e w (chip_at w e)) ≡ []) [
+      | true ↦ λ is. ap (λ n. flat_map (taken_by dom) (taken (w.steps + 1) e w (chip_at w n))) (eqb-true e dom is) ∙ by (chip_at w dom) refl none
+      | false ↦ λ other. other-taken (w.steps + 1) e w dom (chip_at w e) other
+    ]) refl
+  where
+    by : (o : Option Chip) → chip_at w dom ≡ o → is_some o ≡ false → flat_map (taken_by dom) (taken (w.steps + 1) e w o) ≡ []
+    by None at there = refl
+    by (Some c) at there = absurd (cc)
+step-none w dom step none = of-taken w.setup.domains.edition (w.steps + 1) dom (deferred_count w.setup.domains.edition w.history) (accepted_in w step)
+
+TakesNone : ℕ → World → List NoticeLine → Type 0
+TakesNone dom w ls = is_some (chip_at w dom) ≡ false → flat_map (taken_by dom) ls ≡ []
+
+takes-none : (dom : ℕ) (w : World) (ls : List NoticeLine) (step : Step) → IsWorld w → TakesNone dom w ls → TakesNone dom (world_step w step).0 (ls ++ lines_in w step)
+unfolding TakesNone
+takes-none dom w ls step k t none =
+    let before : is_some (chip_at w dom) ≡ false =
+        chip-exists w dom k ∙ ap (λ (s : Setup). has_chip s.domains dom) (sym (step-setup w step)) ∙ sym (chip-exists (world_step w step).0 dom (step-world w step k)) ∙ none in
+    flat_map-append (taken_by dom) ls (lines_in w step)
+    ∙ ap (λ l. l ++ flat_map (taken_by dom) (lines_in w step)) (t before)
+    ∙ step-none w dom step before
+
+pub run-none : (setup : Setup) (steps : List Step) (dom : ℕ) → chip_at (run setup steps).0 dom ≡ None → flat_map (taken_by dom) (lines setup steps) ≡ []
+unfolding TakesNone
+run-none setup steps dom none = run-keeps (TakesNone dom) (takes-none dom) setup steps (λ absent. refl) (ap is_some none)

@@ -2,11 +2,9 @@
 -- Source: this profile.
 use Rattle.std.specs.Prelude.{ℕ, ◌+◌, ◌==◌, if◌then◌else◌, List, [], ◌∷◌, map}
 use Rattle.std.specs.List.{filter}
-use Rattle.std.specs.Option.{option_map_or}
 use Rattle.br_model.specs.declared.change.Change.{Change}
 use Rattle.br_model.specs.declared.change.Update.{Update}
 use Rattle.br_model.specs.declared.domains.Edition.{Edition}
-use Rattle.br_model.specs.Plane.World.{World, chip_at}
 use Rattle.br_model.specs.Table.Change.{updates}
 use Rattle.driver_notices.specs.declared.line.NoticeLine.{NoticeLine}
 use Rattle.driver_notices.specs.declared.line.NoticeLine.TheVariants.{Told, Queued, Applied}
@@ -51,7 +49,3 @@ numbered u = (u.ticket + 1, u.change)
 
 abbrev pub queue : Edition → List Change → List (ℕ × Change)
 queue edition history = map numbered (updates edition history)
-
--- how many updates the chip of the domain has taken, where there is one
-abbrev pub taken_count : World → ℕ → ℕ
-taken_count w dom = option_map_or (λ c. c.count) (chip_at w dom) 0

@@ -5,12 +5,13 @@ ghost use Rattle.br_model.specs.declared.change.Change.{Change};
 ghost use Rattle.br_model.specs.declared.domains.Edition.{Edition};
 ghost use Rattle.br_model.specs.declared.steps.Step.{Step};
 ghost use Rattle.br_model.specs.Plane.Runs.{run};
-ghost use Rattle.br_model.specs.Plane.World.{World};
+ghost use Rattle.br_model.specs.Plane.Chip.{Chip};
+ghost use Rattle.br_model.specs.Plane.World.{World, chip_at};
 ghost use Rattle.br_model.specs.Table.Change.{deferred};
 ghost use Rattle.br_model.specs.Table.Setup.{Setup};
 ghost use Rattle.br_model.specs.Theorems.Applied.{accepted_in, applied, applied_in};
 ghost use Rattle.driver_notices.specs.Notices.{lines, lines_in, notices_of};
-ghost use Rattle.driver_notices.specs.Views.{accepted_by, of_step, queue, queued_by, reached_by, taken_by, taken_count};
+ghost use Rattle.driver_notices.specs.Views.{accepted_by, of_step, queue, queued_by, reached_by, taken_by};
 ghost use Rattle.driver_notices.specs.Worked.{bad_notices, bad_text, station_notices, station_text, two_queues_notices, two_queues_text};
 ghost use Rattle.switchdev_notify.specs.Notices.{notice, told_in};
 
@@ -24,11 +25,13 @@ pub fn updates_are_queued()
     ensures { (setup : Setup) (steps : List Step) → flat_map queued_by (lines setup steps) ≡ queue setup.domains.edition (run setup steps).0.history }
 {}
 
-/// What the chip of a domain takes is the beginning of its queue, in order, as long as its count says. So no update comes twice or out
-/// of order.
+/// What the chip of a domain takes is the beginning of the queue, in order, as long as its count says. So no update comes twice or out of
+/// order. Where there is no chip, nothing is taken.
 pub fn turns_take_the_beginning()
-    ensures { (setup : Setup) (steps : List Step) (dom : ℕ) → flat_map (taken_by dom) (lines setup steps)
-        ≡ take (taken_count (run setup steps).0 dom) (queue setup.domains.edition (run setup steps).0.history) }
+    ensures chip { (setup : Setup) (steps : List Step) (dom : ℕ) (c : Chip) → chip_at (run setup steps).0 dom ≡ Some c
+        → flat_map (taken_by dom) (lines setup steps) ≡ take c.count (queue setup.domains.edition (run setup steps).0.history) }
+    ensures none { (setup : Setup) (steps : List Step) (dom : ℕ) → chip_at (run setup steps).0 dom ≡ None
+        → flat_map (taken_by dom) (lines setup steps) ≡ [] }
 {}
 
 /// The lines with the number of a step are just its own. They say what it accepts, and what it brings to the chip of a domain.
