@@ -5,13 +5,12 @@ use Rattle.std.proofs.lemmas.Grind.{flat_map-append}
 use Rattle.std.proofs.lemmas.List.{map-append}
 use Rattle.std.proofs.lemmas.List.Elements.{filter-append}
 use Rattle.br_model.specs.declared.change.Change.{Change}
-use Rattle.br_model.specs.declared.change.Update.{Update}
 use Rattle.br_model.specs.declared.domains.Edition.{Edition}
 use Rattle.br_model.specs.declared.steps.Step.{Step}
 use Rattle.br_model.specs.Plane.Runs.{run, then_step}
 use Rattle.br_model.specs.Plane.Steps.{world_step}
 use Rattle.br_model.specs.Plane.World.{World, Stepped, first_world}
-use Rattle.br_model.specs.Table.Change.{deferred, updates}
+use Rattle.br_model.specs.Table.Change.{deferred}
 use Rattle.br_model.specs.Table.Cut.{deferred_count, deferred_of}
 use Rattle.br_model.specs.Table.Setup.{Setup}
 use Rattle.br_model.specs.Theorems.Applied.{accepted_in, applied, applied_in, then_applied}

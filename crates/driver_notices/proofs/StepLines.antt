@@ -1,5 +1,5 @@
 -- What the lines of a step say.
-use Rattle.std.proofs.Common.{◌≡◌, ℕ, zero, suc, ◌+◌, Bool, true, false, not, cond, List, [], ◌∷◌, ◌++◌, length, map, drop, Option, None, Some, refl, sym, ap, ◌∙◌}
+use Rattle.std.proofs.Common.{◌≡◌, ℕ, ◌+◌, Bool, true, false, not, cond, List, [], ◌∷◌, ◌++◌, length, map, drop, Option, None, Some, refl, sym, ap, ◌∙◌}
 use Rattle.std.specs.Prelude.{◌==◌, if◌then◌else◌}
 use Rattle.std.specs.List.{AllByRecursion, enumerate_from, flat_map}
 use Rattle.std.specs.Option.{option_map, option_to_list}
@@ -110,14 +110,16 @@ module _ (step dom : ℕ) (w : World) where
       of false is count None = refl
       of true is count (Some d) = ap (λ t. cond t (d ∷ []) [] ++ []) is
       of false is count (Some d) = ap (λ t. cond t (d ∷ []) [] ++ []) is
+
       at : (b : Bool) → (dom == e) ≡ b → (o : Option Chip) → flat_map (reached_by e) (taken step dom w o) ≡ cond b (turned_in w o) []
       at true is None = refl
       at false is None = refl
       at b is (Some c) = of b is c.count (next_of w c)
+
       by : (b : Bool) → (dom == e) ≡ b → flat_map (reached_by e) (taken step dom w o) ≡ (if dom == e then turned_in w o else [])
       by b is = at b is o ∙ sym (ap (λ t. cond t (turned_in w o) []) is)
 
--- a turn of another chip
+  -- a turn of another chip
   pub other-taken : (e : ℕ) (o : Option Chip) → (dom == e) ≡ false → flat_map (taken_by e) (taken step dom w o) ≡ []
   other-taken e None other = refl
   other-taken e (Some c) other = by (next_of w c)

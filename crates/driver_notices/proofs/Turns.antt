@@ -1,7 +1,7 @@
 -- What the chip of a domain takes from its queue is the beginning of the queue.
-use Rattle.std.proofs.Common.{◌≡◌, ℕ, zero, suc, ◌+◌, ◌≤◌, Bool, true, false, not, cond, List, [], ◌∷◌, ◌++◌, length, map, take, Option, None, Some, refl, sym, ap, subst, ◌∙◌, arith}
+use Rattle.std.proofs.Common.{◌≡◌, ℕ, zero, suc, ◌+◌, true, false, not, cond, List, [], ◌∷◌, ◌++◌, length, take, Option, None, Some, refl, sym, ap, subst, ◌∙◌}
 use Rattle.std.specs.Prelude.{◌==◌, if◌then◌else◌}
-use Rattle.std.specs.List.{enumerate_from, flat_map, list_any}
+use Rattle.std.specs.List.{flat_map, list_any}
 use Rattle.std.specs.Option.{is_some, option_map, option_to_list}
 use Rattle.std.proofs.lemmas.Bool.{eqb-true}
 use Rattle.std.proofs.lemmas.Grind.{flat_map-append}
@@ -21,7 +21,7 @@ use Rattle.br_model.specs.Table.Cut.{deferred_count, deferred_of, synchronous_of
 use Rattle.br_model.specs.Table.Setup.{Setup}
 use Rattle.br_model.specs.Theorems.Applied.{accepted_in, applied, applied_in, turned_in}
 use Rattle.br_model.specs.Theorems.Invariants.{IsWorld}
-use Rattle.br_model.proofs.Plane.Applied.{Applies, AppliesAt, run-applies, run-setup, step-applies, step-setup}
+use Rattle.br_model.proofs.Plane.Applied.{AppliesAt, run-applies, run-setup, step-applies, step-setup}
 use Rattle.br_model.proofs.Plane.Chips.{chip-there}
 use Rattle.br_model.proofs.Plane.Kept.{chip-stands, step-world}
 use Rattle.br_model.proofs.Table.Cuts.{deferred_at-deferred}
@@ -100,9 +100,9 @@ takes : (dom : ℕ) (w : World) (ls : List NoticeLine) (step : Step) → IsWorld
 takes dom w ls step k t =
     let edition = w.setup.domains.edition in
     let reached : flat_map (reached_by dom) (ls ++ lines_in w step) ≡ flat_map (reached_by dom) ls ++ applied_in dom w step =
-        flat_map-append (reached_by dom) ls (lines_in w step) ∙ ap (λ (l : List Change). flat_map (reached_by dom) ls ++ l) (step-reached w step dom) in
+    flat_map-append (reached_by dom) ls (lines_in w step) ∙ ap (λ (l : List Change). flat_map (reached_by dom) ls ++ l) (step-reached w step dom) in
     let more = more-numbered edition (flat_map (taken_by dom) ls) (flat_map (taken_by dom) (lines_in w step)) (flat_map (reached_by dom) ls) (applied_in dom w step) t.numbered
-        (step-taken dom w (flat_map (reached_by dom) ls) k t.applies step) in
+    (step-taken dom w (flat_map (reached_by dom) ls) k t.applies step) in
     record {
       applies = subst (AppliesAt dom (world_step w step).0) (sym reached) (step-applies w dom (flat_map (reached_by dom) ls) step k t.applies);
       numbered = subst (λ (s : Setup). IsNumbered s.domains.edition (flat_map (taken_by dom) (ls ++ lines_in w step)) (flat_map (reached_by dom) (ls ++ lines_in w step)))
@@ -156,7 +156,7 @@ takes-none : (dom : ℕ) (w : World) (ls : List NoticeLine) (step : Step) → Is
 unfolding TakesNone
 takes-none dom w ls step k t none =
     let before : is_some (chip_at w dom) ≡ false =
-        chip-exists w dom k ∙ ap (λ (s : Setup). has_chip s.domains dom) (sym (step-setup w step)) ∙ sym (chip-exists (world_step w step).0 dom (step-world w step k)) ∙ none in
+    chip-exists w dom k ∙ ap (λ (s : Setup). has_chip s.domains dom) (sym (step-setup w step)) ∙ sym (chip-exists (world_step w step).0 dom (step-world w step k)) ∙ none in
     flat_map-append (taken_by dom) ls (lines_in w step)
     ∙ ap (λ l. l ++ flat_map (taken_by dom) (lines_in w step)) (t before)
     ∙ step-none w dom step before

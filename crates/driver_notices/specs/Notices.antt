@@ -11,7 +11,7 @@ use Rattle.br_model.specs.declared.change.Change.{Change}
 use Rattle.br_model.specs.declared.domains.Edition.{Edition}
 use Rattle.br_model.specs.declared.steps.Step.{Step}
 use Rattle.br_model.specs.Plane.Chip.{Chip}
-use Rattle.br_model.specs.Plane.Runs.{run, pending}
+use Rattle.br_model.specs.Plane.Runs.{pending}
 use Rattle.br_model.specs.Plane.Steps.{world_step}
 use Rattle.br_model.specs.Plane.Traits.{traits}
 use Rattle.br_model.specs.Plane.World.{World, chip_at, first_world, next_of}

@@ -1,6 +1,6 @@
 -- Worked runs: the text of each scenario, and the notices that its drivers get.
 -- Source: this profile; the notices were worked out by hand.
-use Rattle.std.specs.Prelude.{ℕ, List, [], ◌∷◌, ◌++◌, codes}
+use Rattle.std.specs.Prelude.{ℕ, List, [], ◌∷◌, codes}
 use Rattle.br_model.specs.Theorems.WholeLines.{lines_text}
 
 -- A port of a chip joins, gets a VLAN, learns a station and loses it. The host stays outside the VLAN.

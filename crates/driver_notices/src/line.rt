@@ -6,7 +6,10 @@ use br_model::numbers::Dom;
 #[derive(Clone, Copy)]
 pub enum NoticeLine {
     /// In this step the driver of each chip is told.
-    Told { step: u32, change: Change },
+    Told {
+        step: u32,
+        change: Change,
+    },
     /// In this step it is put into the queue of each chip. Numbers count from 1 in the order of acceptance.
     Queued {
         step: u32,
