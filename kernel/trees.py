@@ -85,6 +85,7 @@ class Maker:
             self.learn()
             if self.clock:
                 self.ageing = 1
+                self.command("ageing 1")  # Linux collects at once, and here the next moment does
                 for _ in range(2000 // self.grid):
                     self.pass_on(True)
                 self.ageing = 300
