@@ -4,3 +4,6 @@ pub mod Reading
 pub mod Explained
 pub mod Greedy
 pub mod Outcomes
+pub mod Rows
+pub mod InputForms
+pub mod Inputs
