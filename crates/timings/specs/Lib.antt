@@ -1,9 +1,13 @@
--- Every timing: worlds that differ in what their chips have applied, and observations.
+-- Every timing: worlds that differ in what their chips have applied, and observations; and what `outcomes` and `explain` say.
 pub mod Timings
 pub mod Reading
 pub mod Explained
 pub mod Greedy
-pub mod Outcomes
 pub mod Rows
+pub mod Outcomes
+pub mod Answers
 pub mod InputForms
 pub mod Inputs
+pub mod Replies
+pub mod OutcomesText
+pub mod ExplainText
