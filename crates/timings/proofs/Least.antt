@@ -47,3 +47,16 @@ least-found p n (suc more) j low high passes =
   where
     above : p n ≡ false → suc n ≤ j
     above is = omega (arith, low, λ (same : n ≡ j). true≢false (sym passes ∙ ap p (sym same) ∙ is))
+
+-- nothing beyond the reach is found
+pub least-within : (p : ℕ → Bool) (n more k : ℕ) → least_from p n more ≡ Some k → k ≤ n + more
+least-within p n zero k e =
+    (elim (p n) as (λ b. cond b (Some n) None ≡ Some k → k ≤ n + 0) [
+      | true ↦ λ f. omega (arith, same_Some n k f)
+      | false ↦ λ f. absurd (cc)
+    ]) e
+least-within p n (suc more) k e =
+    (elim (p n) as (λ b. cond b (Some n) (least_from p (suc n) more) ≡ Some k → k ≤ n + suc more) [
+      | true ↦ λ f. omega (arith, same_Some n k f)
+      | false ↦ λ f. omega (arith, least-within p (suc n) more k f)
+    ]) e

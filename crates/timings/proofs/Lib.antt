@@ -4,3 +4,8 @@ pub mod Playing
 pub mod Timing
 pub mod Lines
 pub mod Least
+pub mod Counting
+pub mod Own
+pub mod Same
+pub mod Exchange
+pub mod Sound

@@ -36,7 +36,7 @@ use Rattle.timings.specs.Explained.{frame_sent}
 use Rattle.timings.specs.Timings.{Alike, played, serving}
 use Rattle.timings.proofs.Playing.{is-other, other, publish-alike, serve-alike, to-other, waits-alike}
 
-sent-append : (id : ℕ) (a b : List Line) → sent_of id (a ++ b) ≡ sent_of id a ++ sent_of id b
+pub sent-append : (id : ℕ) (a b : List Line) → sent_of id (a ++ b) ≡ sent_of id a ++ sent_of id b
 sent-append id [] b = refl
 sent-append id (l ∷ a) b = ap (λ s. sent_by id l ++ s) (sent-append id a b) ∙ sym (append_assoc (sent_by id l) (sent_of id a) (sent_of id b))
 
@@ -122,7 +122,7 @@ by-counts id w cs n ks f None (Some d) e = absurd (cc)
 by-counts id w cs n ks f (Some c) None e = absurd (cc)
 by-counts id w cs n ks f (Some c) (Some d) e = count-tells id w cs n ks c d f d.count refl (same_Some c.count d.count e)
 
-abbrev SameCounts : World → World → ℕ → Type 0
+abbrev pub SameCounts : World → World → ℕ → Type 0
 SameCounts w v port =
     option_map (λ (c : Chip). c.count) (chip_of w (domain_of w.setup.domains port)) ≡ option_map (λ (c : Chip). c.count) (chip_of v (domain_of v.setup.domains port))
 

@@ -28,9 +28,9 @@ use Rattle.timings.proofs.Playing.{alike-then, alike-sym, cmd-alike, ends, ends-
 use Rattle.timings.proofs.Turning.{same, turn-alike}
 
 -- nothing waits or is held
-record Calm (w : World) : Type 0 where
-  waiting : w.waiting ≡ []
-  held : w.held ≡ []
+pub record Calm (w : World) : Type 0 where
+  pub waiting : w.waiting ≡ []
+  pub held : w.held ≡ []
 
 -- at most one frame waits
 data Few (w : World) : Type 0 where
@@ -81,9 +81,9 @@ ends-calm y (one f waiting held) =
     subst (λ fs. Calm (worlds y (Publish ∷ serving fs))) (sym waiting) (record { waiting = k.waiting; held = k.held })
 
 -- between what is observed
-record Ready (w : World) : Type 0 where
-  world : IsWorld w
-  calm : Calm w
+pub record Ready (w : World) : Type 0 where
+  pub world : IsWorld w
+  pub calm : Calm w
 
 worlds-world : (steps : List Step) (w : World) → IsWorld w → IsWorld (worlds w steps)
 worlds-world [] w k = k
@@ -112,16 +112,19 @@ seen-ready s w k = record {
 }
 
 -- where two worlds have come by one observation
-record Beside (x y : Stepped) : Type 0 where
-  alike : Alike x.0 y.0
-  left : Ready x.0
-  right : Ready y.0
+pub record Beside (x y : Stepped) : Type 0 where
+  pub alike : Alike x.0 y.0
+  pub left : Ready x.0
+  pub right : Ready y.0
 
-turned-ready : (x : Stepped) (doms : List ℕ) → Ready x.0 → Ready (turned x doms).0 × Alike (turned x doms).0 x.0
+pub turned-ready : (x : Stepped) (doms : List ℕ) → Ready x.0 → Ready (turned x doms).0 × Alike (turned x doms).0 x.0
 turned-ready x doms k =
     subst (λ w. Ready w × Alike w x.0) (sym (stepped_worlds x (map (λ dom. Turn dom) doms))) (turns-ready doms x.0 k)
 
-plays-beside : (x y : Stepped) (s : Seen) → Beside x y → Beside (plays x s) (plays y s)
+pub plays-ready : (x : Stepped) (s : Seen) → Ready x.0 → Ready (plays x s).0
+plays-ready x s k = subst Ready (sym (plays-world x s)) (seen-ready s x.0 k)
+
+pub plays-beside : (x y : Stepped) (s : Seen) → Beside x y → Beside (plays x s) (plays y s)
 plays-beside x y s b = record {
   alike = subst (λ w. Alike w (plays y s).0) (sym (plays-world x s))
       (subst (λ w. Alike (ends (world_step x.0 (step_of s)).0) w) (sym (plays-world y s)) (seen-alike s x.0 y.0 b.alike b.left b.right));
@@ -151,8 +154,12 @@ all-beside (m ∷ ms) [] x y e b = absurd (cc)
 all-beside (m ∷ ms) (n ∷ ns) x y e b =
     all-beside ms ns (happens_at x m) (happens_at y n) (ap behind e) (happens-beside x y m n (ap (first-or m.1) e) b)
 
+pub first-beside : (setup : Setup) → Beside (first_world setup, []) (first_world setup, [])
+first-beside setup =
+    let k : Ready (first_world setup) = record { world = first-world setup; calm = record { waiting = refl; held = refl } } in
+    record { alike = same (first_world setup); left = k; right = k }
+
 pub timed-alike : (setup : Setup) (ms ns : List Moment) → seen_of ms ≡ seen_of ns → Alike (timed setup ms).0 (timed setup ns).0
 unfolding timed
 timed-alike setup ms ns e =
-    let k : Ready (first_world setup) = record { world = first-world setup; calm = record { waiting = refl; held = refl } } in
-    (all-beside ms ns (first_world setup, []) (first_world setup, []) e (record { alike = same (first_world setup); left = k; right = k })).alike
+    (all-beside ms ns (first_world setup, []) (first_world setup, []) e (first-beside setup)).alike
