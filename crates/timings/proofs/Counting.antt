@@ -173,6 +173,11 @@ pub some-of : {X : Type 0} (o : Option X) → is_some o ≡ true → (x : X) × 
 some-of None e = absurd (true≢false (sym e))
 some-of (Some x) e = (x, refl)
 
+pub turn-counts : (w : World) (dom : ℕ) → IsWorld w → is_some (chip_at w dom) ≡ true → count_at (world_step w (Turn dom)).0 dom ≡ min (count_at w dom + 1) (updates_in w)
+turn-counts w dom k there =
+    let c = some-of (chip_at w dom) there in
+    turn-own w dom c.0 c.1 (chip-stands w dom c.0 k c.1).applied ∙ ap (λ n. min (n + 1) (updates_in w)) (sym (there-count w dom c.0 c.1))
+
 pub repeated-own : (x : Stepped) (dom n : ℕ) → IsWorld x.0 → is_some (chip_at x.0 dom) ≡ true
     → count_at (turned x (repeated dom n)).0 dom ≡ min (count_at x.0 dom + n) (updates_in x.0)
 repeated-own x dom zero k there = omega (arith, count-most x.0 dom k)

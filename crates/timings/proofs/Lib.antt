@@ -9,3 +9,4 @@ pub mod Own
 pub mod Same
 pub mod Exchange
 pub mod Sound
+pub mod Explaining
