@@ -11,3 +11,5 @@ pub mod Inputs
 pub mod Replies
 pub mod OutcomesText
 pub mod ExplainText
+pub mod Telling
+pub mod Refuted
