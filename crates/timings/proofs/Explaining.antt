@@ -2,7 +2,7 @@
 use Rattle.std.proofs.Common.{◌≡◌, ℕ, ◌+◌, ◌≤◌, ◌<◌, true, false, cond, List, [], ◌∷◌, ◌++◌, map, take, Option, None, Some, refl, sym, ap, ◌∙◌, subst, arith, append-nil}
 use Rattle.std.proofs.lemmas.List.{map-append}
 use Rattle.std.proofs.lemmas.List.Elements.{filter-append}
-use Rattle.std.specs.Prelude.{◌==◌, ⊥}
+use Rattle.std.specs.Prelude.{◌==◌}
 use Rattle.std.specs.List.{filter, fold, flat_map}
 use Rattle.std.specs.Option.{option_map_or}
 use Rattle.br_model.specs.declared.transcript.Line.{Line}
@@ -56,7 +56,7 @@ refuted setup s marks id x e =
       later = h.later;
       parts = h.parts;
       there = h.there;
-      id = h.next;
+      next = h.next;
       stands = h.stands;
       explains = fit-explains setup s id h.before (omega (arith, h.next, ap (λ (y : Stepped). y.0.next) h.there)) (h.fit id);
       none = h.none;

@@ -7,6 +7,7 @@ pub mod Least
 pub mod Counting
 pub mod Own
 pub mod Same
+pub mod Watching
 pub mod Exchange
 pub mod Sound
 pub mod Explaining

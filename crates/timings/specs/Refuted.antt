@@ -18,7 +18,7 @@ pub record IsRefuted (setup : Setup) (s : Sights) (marks : List Mark) (id : ℕ)
   pub later : List Mark
   pub parts : marks ≡ observed before ++ Sees (Enters port bytes) ∷ later
   pub there : x ≡ timing setup before
-  pub id : id ≡ x.0.next
+  pub next : id ≡ x.0.next
   pub stands : stands_from (first_world setup, []) before ≡ true
   pub explains : Explains setup s id before
   pub none : turns_ahead s x (Sees (Enters port bytes)) ≡ None

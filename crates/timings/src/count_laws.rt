@@ -1,15 +1,15 @@
 //! Laws about how many updates the chips have applied.
-ghost use Rattle.std.specs.Prelude.{◌≡◌, ◌≤◌, ◌<◌, ◌+◌, ◌==◌, ℕ, is_some, false, true, min, None, List, []};
+ghost use Rattle.std.specs.Prelude.{◌≡◌, ◌≤◌, ◌+◌, ◌==◌, ℕ, is_some, false, true, min, None, List};
 ghost use Rattle.std.specs.List.{fold};
 ghost use Rattle.br_model.specs.declared.steps.Step.{Step};
 ghost use Rattle.br_model.specs.declared.steps.Step.TheVariants.{Turn};
 ghost use Rattle.br_model.specs.Plane.Sending.{sent_of};
 ghost use Rattle.br_model.specs.Plane.Steps.{world_step};
 ghost use Rattle.br_model.specs.Plane.Traits.{traits};
-ghost use Rattle.br_model.specs.Plane.World.{World, Stepped, chip_at};
+ghost use Rattle.br_model.specs.Plane.World.{Stepped, World, chip_at};
 ghost use Rattle.br_model.specs.Table.Setup.{Setup};
 ghost use Rattle.br_model.specs.Theorems.Invariants.{IsWorld};
-ghost use Rattle.timings.specs.Explained.{Sees, Timing, count_at, frame_sent, goes, timing, updates_in};
+ghost use Rattle.timings.specs.Explained.{Timing, count_at, frame_sent, goes, timing, updates_in};
 ghost use Rattle.timings.specs.Greedy.{repeated};
 ghost use Rattle.timings.specs.Timings.{Enters, Seen, plays, turned};
 

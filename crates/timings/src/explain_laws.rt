@@ -1,8 +1,10 @@
 //! Laws about `explain`: its answer is sound, complete, and the least one.
-ghost use Rattle.std.specs.Prelude.{◌≡◌, ◌≤◌, ◌<◌, ◌+◌, ◌++◌, ◌∷◌, ℕ, ⊥, List, take};
+ghost use Rattle.std.specs.Prelude.{◌≡◌, ◌≤◌, ◌+◌, ◌==◌, ℕ, false, true, List, [], take};
+ghost use Rattle.std.specs.List.{filter};
+ghost use Rattle.br_model.specs.Plane.Sending.{Sent};
 ghost use Rattle.br_model.specs.Plane.World.{Stepped};
 ghost use Rattle.br_model.specs.Table.Setup.{Setup};
-ghost use Rattle.timings.specs.Explained.{Explains, IsTiming, Mark, Sights, Timing, count_at, observed, timing};
+ghost use Rattle.timings.specs.Explained.{Explains, IsTiming, Mark, Sights, Timing, count_at, is_blind, timing, watched};
 ghost use Rattle.timings.specs.Greedy.{No, Yes, explain};
 ghost use Rattle.timings.specs.Refuted.{IsRefuted};
 ghost use Rattle.timings.specs.Telling.{sights_of};
@@ -34,4 +36,11 @@ pub fn explain_is_least()
 pub fn runs_explain_themselves()
     ensures { (setup : Setup) (marks : List Mark) (t : Timing) (blind ignored : List ℕ) → IsTiming setup marks t
         → (found : Timing) × (explain setup (sights_of blind ignored (timing setup t).1) marks ≡ Yes found) }
+{}
+
+/// What is compared is what left by each port, in its order: nothing of a port at which nobody looks, and all of every other one.
+pub fn watched_ports()
+    ensures blind { (s : Sights) (port : ℕ) (sent : Sent) → is_blind s port ≡ true → filter (λ x. x.0 == port) (watched s sent) ≡ [] }
+    ensures others { (s : Sights) (port : ℕ) (sent : Sent) → is_blind s port ≡ false
+        → filter (λ x. x.0 == port) (watched s sent) ≡ filter (λ x. x.0 == port) sent }
 {}
