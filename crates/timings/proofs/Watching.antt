@@ -16,11 +16,11 @@ in-front q x y later less = by (x.0 == q) (y.0 == q) refl refl
     by : (a b : Bool) → (x.0 == q) ≡ a → (y.0 == q) ≡ b → at q (y ∷ x ∷ later) ≡ at q (x ∷ y ∷ later)
     by true true is_x is_y =
         absurd (true≢false (sym (le-leb x.0 y.0 (omega (arith, eqb-true x.0 q is_x, eqb-true y.0 q is_y))) ∙ less))
-    by true false is_x is_y = ap (λ b. cond b (y ∷ xs) xs) is_y ∙ sym (ap (λ b. cond (x.0 == q) (x ∷ cond b (y ∷ at q later) (at q later)) (cond b (y ∷ at q later) (at q later))) is_y)
-      where
-        abbrev xs : Sent
-        xs = at q (x ∷ later)
-    by false b is_x is_y = ap (λ t. cond (y.0 == q) (y ∷ cond t (x ∷ at q later) (at q later)) (cond t (x ∷ at q later) (at q later))) is_x
+    by true false is_x is_y =
+        ap (λ b. cond b (y ∷ at q (x ∷ later)) (at q (x ∷ later))) is_y
+        ∙ sym (ap (λ b. cond (x.0 == q) (x ∷ cond b (y ∷ at q later) (at q later)) (cond b (y ∷ at q later) (at q later))) is_y)
+    by false b is_x is_y =
+        ap (λ t. cond (y.0 == q) (y ∷ cond t (x ∷ at q later) (at q later)) (cond t (x ∷ at q later) (at q later))) is_x
         ∙ sym (ap (λ t. cond t (x ∷ at q (y ∷ later)) (at q (y ∷ later))) is_x)
 
 placed-at : (q : ℕ) (x : ℕ × List ℕ) (sent : Sent) → at q (placed x sent) ≡ at q (x ∷ sent)
