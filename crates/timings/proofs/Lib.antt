@@ -11,3 +11,4 @@ pub mod Watching
 pub mod Exchange
 pub mod Sound
 pub mod Explaining
+pub mod Worked

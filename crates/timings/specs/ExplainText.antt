@@ -3,7 +3,6 @@
 use Rattle.std.specs.Prelude.{ℕ, ◌-◌, Bool, if◌then◌else◌, List, [], ◌∷◌, ◌++◌, codes, get_or}
 use Rattle.std.specs.Fmt.{decimal}
 use Rattle.std.specs.List.{flat_map}
-use Rattle.std.specs.declared.option.Option.{Option}
 use Rattle.br_model.specs.declared.steps.Step.{Step}
 use Rattle.br_model.specs.Data.Digits.{hex_of}
 use Rattle.br_model.specs.Plane.Entering.{chip_of}
@@ -12,7 +11,6 @@ use Rattle.br_model.specs.Plane.World.{Stepped, World, first_world}
 use Rattle.br_model.specs.Program.Runs.{setup_of}
 use Rattle.br_model.specs.Table.Domains.{domain_of}
 use Rattle.br_model.specs.Text.Head.{edition_line, port_line}
-use Rattle.br_model.specs.Text.Roster.{Roster}
 use Rattle.br_model.specs.Text.Scenario.{Ending, Going, Ended, Bad}
 use Rattle.br_model.specs.Text.ScenarioText.{step_text}
 use Rattle.br_model.specs.Text.Spelling.{mac_text}

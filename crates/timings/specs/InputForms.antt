@@ -10,7 +10,7 @@ use Rattle.br_model.specs.Table.Limits.{most_changes}
 use Rattle.br_model.specs.Text.CommandForms.{commands, step}
 use Rattle.br_model.specs.Text.Forms.{Token, Fixed, Has, Row, Makes, operands_from, tokens}
 use Rattle.br_model.specs.Text.LineForms.{lines}
-use Rattle.br_model.specs.Text.Operands.{Operand, Number, Chip, PortNumber, Hex, Value}
+use Rattle.br_model.specs.Text.Operands.{Operand, Number, Chip, PortNumber, Hex}
 use Rattle.br_model.specs.Text.Words.{Word}
 
 -- A form that stands in this part, and one that stands nowhere in it.

@@ -1,7 +1,7 @@
 -- What the inputs of `explain` and `outcomes` say: their bytes are read line by line, up to the end of the second section or the first
 -- bad line.
 -- Source: this profile.
-use Rattle.std.specs.Prelude.{ℕ, ◌+◌, ◌-◌, ◌==◌, nat_lt, Bool, true, false, ◌||◌, if◌then◌else◌, List, [], ◌∷◌, ◌++◌, map, length, codes, slice_index_or}
+use Rattle.std.specs.Prelude.{ℕ, ◌+◌, ◌-◌, ◌==◌, nat_lt, Bool, true, false, if◌then◌else◌, List, [], ◌∷◌, ◌++◌, map, length, codes, slice_index_or}
 use Rattle.std.specs.List.{flat_map, fold}
 use Rattle.std.specs.Str.{bytes_eq}
 use Rattle.std.specs.declared.result.Result.{Result}
@@ -17,13 +17,13 @@ use Rattle.br_model.specs.Table.Domains.{host, software}
 use Rattle.br_model.specs.Text.CommandForms.{commands}
 use Rattle.br_model.specs.Text.Forms.{Row, line}
 use Rattle.br_model.specs.Text.LineForms.{commanded}
-use Rattle.br_model.specs.Text.Roster.{Entry, Roster, first_roster, host_name}
+use Rattle.br_model.specs.Text.Roster.{Roster, first_roster, host_name}
 use Rattle.br_model.specs.Text.Scenario.{Ending, Going, Ended, Bad, Scenario, behind_end, declared, is_end, longest_line, scenario}
 use Rattle.br_model.specs.Text.Words.{Word, words, is_comment}
 use Rattle.br_model.specs.declared.steps.Command.{Command}
 use Rattle.timings.specs.Explained.{Mark, Sees, Applied, Sights}
 use Rattle.timings.specs.InputForms.{Asks, Skips, Begun, Probes, Finishes, Tells, Says, Bounds, Begins, Blind, Ignores, Saw, Closes, Part, First, Between, Blinds, Unknown, Sighted, rows_in, commands_in, nowhere, question_rows}
-use Rattle.timings.specs.Timings.{Seen, Commands, Comes, Enters}
+use Rattle.timings.specs.Timings.{Commands, Comes, Enters}
 
 -- Lines.
 

@@ -13,3 +13,4 @@ pub mod OutcomesText
 pub mod ExplainText
 pub mod Telling
 pub mod Refuted
+pub mod Worked

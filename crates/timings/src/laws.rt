@@ -1,5 +1,5 @@
 //! Laws about timings. A law is a function that does nothing: its contract says it.
-ghost use Rattle.std.specs.Prelude.{◌≡◌, ◌≤◌, ◌+◌, is_some, ℕ, Bool, Some, true, false, List, []};
+ghost use Rattle.std.specs.Prelude.{◌≡◌, ◌≤◌, ◌+◌, is_some, ℕ, Bool, Some, true, false, List};
 ghost use Rattle.br_model.specs.declared.steps.Command.{Command};
 ghost use Rattle.br_model.specs.declared.steps.Step.TheVariants.{Cmd, Now, Publish, Serve, Turn};
 ghost use Rattle.br_model.specs.Plane.Chip.{Chip};
@@ -9,7 +9,6 @@ ghost use Rattle.br_model.specs.Plane.World.{World};
 ghost use Rattle.std.specs.Option.{option_map};
 ghost use Rattle.br_model.specs.declared.change.Change.{Change};
 ghost use Rattle.br_model.specs.declared.domains.Edition.{Edition};
-ghost use Rattle.br_model.specs.declared.frame.Class.{Class};
 ghost use Rattle.br_model.specs.declared.frame.Class.TheVariants.{Trap};
 ghost use Rattle.br_model.specs.declared.frame.Head.{Head};
 ghost use Rattle.br_model.specs.Control.Course.{Course};
@@ -22,9 +21,8 @@ ghost use Rattle.br_model.specs.Table.Setup.{Setup};
 ghost use Rattle.br_model.specs.Table.Table.{table};
 ghost use Rattle.br_model.specs.Wire.Messages.{message};
 ghost use Rattle.timings.specs.Reading.{is_read};
-ghost use Rattle.timings.specs.Explained.{Sights, frame_sent};
-ghost use Rattle.timings.specs.Greedy.{explain, least_from, Yes};
-ghost use Rattle.timings.specs.Outcomes.{soft_rows_of};
+ghost use Rattle.timings.specs.Explained.{frame_sent};
+ghost use Rattle.timings.specs.Greedy.{least_from};
 ghost use Rattle.timings.specs.Timings.{Alike, Moment, seen_of, timed};
 
 /// A turn changes nothing but the chips and the number of steps.
@@ -48,12 +46,6 @@ pub fn what_is_read()
 /// Whenever the chips apply their updates: two timings of one observation give the same history, control state and frames on their way.
 pub fn timings_agree()
     ensures { (setup : Setup) (ms ns : List Moment) → seen_of ms ≡ seen_of ns → Alike (timed setup ms).0 (timed setup ns).0 }
-{}
-
-/// (Definitions that no law speaks of yet are read here.)
-pub fn definitions_stand()
-    ensures none { (setup : Setup) (s : Sights) → explain setup s [] ≡ Yes [] }
-    ensures soft { (w : World) (port : ℕ) (bytes : List ℕ) (head : Head) (k : Class) → soft_rows_of w port bytes head [] k ≡ [] }
 {}
 
 /// What is sent of a frame depends on how much the chip of its own port has applied, and on no other chip.
