@@ -1,4 +1,5 @@
 pub mod Lines
 pub mod Notices
+pub mod Tellers
 pub mod Views
 pub mod Worked
