@@ -4,3 +4,4 @@ pub mod RunLines
 pub mod Turns
 pub mod OwnSteps
 pub mod Deliveries
+pub mod Tellers

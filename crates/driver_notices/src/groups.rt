@@ -1,5 +1,5 @@
 //! Groups as text.
-ghost use Rattle.std.specs.Prelude.{◌≡◌, ◌<◌, ◌+◌, ◌++◌, ◌∷◌, OnOk};
+ghost use Rattle.std.specs.Prelude.{◌≡◌, ◌<◌, ◌++◌, OnOk};
 ghost use Rattle.std.specs.String.{string_bytes};
 ghost use Rattle.br_model.specs.Program.Listings.{group_text};
 ghost use Rattle.br_model.specs.Text.Spelling.{byte_at, digits_at, dotted, groups_of_four};
@@ -35,28 +35,16 @@ fn append_digits(address: u128, bits: u32, to: &mut String) -> Result<(), NoMemo
     append_hex(&[high, low], to)
 }
 
-/// Four groups of four digits, joined by colons, the last of which stands so many bits above the address's lowest.
-fn append_four(address: u128, bits: u32, to: &mut String) -> Result<(), NoMemory>
-    requires { bits < 72 }
-    ensures { OnOk result (string_bytes to.new ≡ string_bytes to.old
-        ++ (digits_at address (bits + 48) ++ (58 ∷ digits_at address (bits + 32) ++ (58 ∷ digits_at address (bits + 16) ++ (58 ∷ digits_at address bits))))) }
-{
-    append_digits(address, bits + 48, to)?;
-    to.push(':')?;
-    append_digits(address, bits + 32, to)?;
-    to.push(':')?;
-    append_digits(address, bits + 16, to)?;
-    to.push(':')?;
-    append_digits(address, bits, to)
-}
-
 /// Eight groups of four digits, joined by colons.
 fn append_groups(address: u128, to: &mut String) -> Result<(), NoMemory>
     ensures { OnOk result (string_bytes to.new ≡ string_bytes to.old ++ groups_of_four address) }
 {
-    append_four(address, 64, to)?;
-    to.push(':')?;
-    append_four(address, 0, to)
+    append_digits(address, 112, to)?;
+    for bits in &[96, 80, 64, 48, 32, 16, 0] {
+        to.push(':')?;
+        append_digits(address, *bits, to)?;
+    }
+    Ok(())
 }
 
 pub(crate) fn append_group(group: Group, to: &mut String) -> Result<(), NoMemory>

@@ -1,12 +1,13 @@
 //! The lines of a run, as it goes on.
-ghost use Rattle.std.specs.Prelude.{◌≡◌, ◌+◌, ◌≤◌, ◌<◌, ◌++◌, IfSome, OnOk, length, slice_get};
+ghost use Rattle.std.specs.Prelude.{◌≡◌, ◌+◌, ◌≤◌, ◌<◌, ◌++◌, IfSome, OnOk, Some, length, slice_get};
+ghost use Rattle.std.specs.Option.{option_to_list};
 ghost use Rattle.br_model.specs.Plane.Chip.{Chip};
 ghost use Rattle.br_model.specs.Plane.World.{World};
 ghost use Rattle.br_model.specs.Table.Change.{updates};
 ghost use Rattle.br_model.specs.Table.Cut.{deferred_count};
 ghost use Rattle.br_model.specs.Table.Limits.{most_changes};
 ghost use Rattle.driver_notices.specs.Notices.{lines_of, taken};
-ghost use Rattle.driver_notices.specs.Tellers.{next_count, next_line};
+ghost use Rattle.driver_notices.specs.Tellers.{line_of_update, next_count, next_line};
 
 use crate::NoMemory;
 use crate::line::NoticeLine;
@@ -81,25 +82,26 @@ impl Teller {
     }
 }
 
-/// Puts the line of a turn of the domain's chip, whose next update this is, behind `lines`; none where there is no update.
-pub fn take(
-    step: u32,
-    dom: Dom,
-    update: Option<Update>,
-    lines: &mut Vec<NoticeLine>,
-) -> Result<(), NoMemory>
+fn applied(step: u32, dom: Dom, update: Option<Update>) -> Option<NoticeLine>
+    requires { IfSome update (λ u. u.ticket < most_changes) }
+    ensures { result ≡ line_of_update step dom update }
+{
+    match update {
+        Some(update) => Some(NoticeLine::Applied {
+            step,
+            dom,
+            number: update.ticket + 1,
+            change: update.change,
+        }),
+        None => None,
+    }
+}
+
+/// The line of a turn of the domain's chip, whose next update this is; none where there is no update.
+pub fn take(step: u32, dom: Dom, update: Option<Update>) -> Option<NoticeLine>
     requires { IfSome update (λ u. u.ticket < most_changes) }
     ensures { (w : World) (c : Chip) → update ≡ slice_get (updates w.setup.domains.edition w.history) c.count
-        → OnOk result (lines.new.items ≡ lines.old.items ++ taken step dom w (Some c)) }
+        → option_to_list result ≡ taken step dom w (Some c) }
 {
-    let Some(update) = update else {
-        return Ok(());
-    };
-    lines.push(NoticeLine::Applied {
-        step,
-        dom,
-        number: update.ticket + 1,
-        change: update.change,
-    })?;
-    Ok(())
+    applied(step, dom, update)
 }

@@ -2,7 +2,7 @@
 ghost use Rattle.std.specs.Prelude.{◌≡◌, ◌<◌, ◌++◌, ◌∷◌, [], not, OnOk, codes, decimal};
 ghost use Rattle.std.specs.String.{string_bytes};
 ghost use Rattle.br_model.specs.Text.Spelling.{further};
-ghost use Rattle.br_model.specs.declared.change.Change.TheVariants.{AddrDel, AddrPut, SetFlags, VlanAdd, VlanDel};
+ghost use Rattle.br_model.specs.declared.change.Change.TheVariants.{AddrDel, AddrPut, Querier, Router, SetFlags, SetState, VlanAdd, VlanDel};
 ghost use Rattle.driver_notices.specs.Lines.{flags_text, group_object as object_of_group, is_among, line_text, member_object, notice_text, state_word as word_of_state, switch_word as word_of_switch, text, version_word as word_of_version};
 
 use crate::NoMemory;
@@ -44,7 +44,11 @@ fn version_word(six: bool) -> &'static str
 fn group_object(port: Port) -> &'static str
     ensures { result.now ≡ object_of_group port }
 {
-    if port.is_host() { "host_mdb " } else { "port_mdb " }
+    if port.is_host() {
+        "host_mdb "
+    } else {
+        "port_mdb "
+    }
 }
 
 /// The flag's name, if the flag with this bit is among these.
@@ -86,28 +90,29 @@ fn append_set_flags(
     to.push('\n')
 }
 
-/// An attribute of a port that has one word.
-fn append_attribute(
-    name: &str,
-    device: &str,
-    value: &str,
-    to: &mut String,
-) -> Result<(), NoMemory>
-    ensures { OnOk result (string_bytes to.new ≡ string_bytes to.old
-        ++ (codes "port_attr_set " ++ (name.now ++ (codes " dev " ++ (device.now ++ (32 ∷ (value.now ++ 10 ∷ []))))))) }
+fn append_set_state(port: Port, state: u8, roster: &Roster, to: &mut String) -> Result<(), NoMemory>
+    ensures { OnOk result (string_bytes to.new ≡ string_bytes to.old ++ notice_text roster.now.ports (SetState port state)) }
 {
-    writeln!(to, "port_attr_set {name} dev {device} {value}")
+    let (device, state) = (device(roster, port), state_word(state));
+    writeln!(to, "port_attr_set port_stp_state dev {device} {state}")
 }
 
-/// The words that mark a membership of a VLAN.
+fn append_router(port: Port, on: bool, roster: &Roster, to: &mut String) -> Result<(), NoMemory>
+    ensures { OnOk result (string_bytes to.new ≡ string_bytes to.old ++ notice_text roster.now.ports (Router port on)) }
+{
+    let (device, switch) = (device(roster, port), switch_word(on));
+    writeln!(to, "port_attr_set port_mrouter dev {device} {switch}")
+}
+
+/// The words that mark a membership of a VLAN, with the line feed.
 fn marks(untagged: bool, pvid: bool) -> &'static str
-    ensures { result.now ≡ further pvid (codes "pvid") ++ further untagged (codes "untagged") }
+    ensures { result.now ≡ further pvid (codes "pvid") ++ (further untagged (codes "untagged") ++ 10 ∷ []) }
 {
     match (pvid, untagged) {
-        (false, false) => "",
-        (true, false) => " pvid",
-        (false, true) => " untagged",
-        (true, true) => " pvid untagged",
+        (false, false) => "\n",
+        (true, false) => " pvid\n",
+        (false, true) => " untagged\n",
+        (true, true) => " pvid untagged\n",
     }
 }
 
@@ -122,15 +127,10 @@ fn append_vlan_add(
     ensures { OnOk result (string_bytes to.new ≡ string_bytes to.old ++ notice_text roster.now.ports (VlanAdd port vid untagged pvid)) }
 {
     let (vid, device, marks) = (vid.number(), device(roster, port), marks(untagged, pvid));
-    writeln!(to, "port_obj_add port_vlan vid {vid} dev {device}{marks}")
+    write!(to, "port_obj_add port_vlan vid {vid} dev {device}{marks}")
 }
 
-fn append_vlan_del(
-    port: Port,
-    vid: Vid,
-    roster: &Roster,
-    to: &mut String,
-) -> Result<(), NoMemory>
+fn append_vlan_del(port: Port, vid: Vid, roster: &Roster, to: &mut String) -> Result<(), NoMemory>
     ensures { OnOk result (string_bytes to.new ≡ string_bytes to.old ++ notice_text roster.now.ports (VlanDel port vid)) }
 {
     let (vid, device) = (vid.number(), device(roster, port));
@@ -147,10 +147,26 @@ fn append_member(
 ) -> Result<(), NoMemory>
     ensures { OnOk result (string_bytes to.new ≡ string_bytes to.old ++ member_object roster.now.ports port vid group) }
 {
-    to.push_str(group_object(port))?;
+    let object = group_object(port);
+    to.push_str(object)?;
     append_group(group, to)?;
     let (vid, device) = (vid.number(), device(roster, port));
     writeln!(to, " dev {device} vlan {vid}")
+}
+
+/// A member of a group comes, or goes.
+fn append_group_change(
+    event: &str,
+    port: Port,
+    vid: Vid,
+    group: Group,
+    roster: &Roster,
+    to: &mut String,
+) -> Result<(), NoMemory>
+    ensures { OnOk result (string_bytes to.new ≡ string_bytes to.old ++ (event.now ++ member_object roster.now.ports port vid group)) }
+{
+    to.push_str(event)?;
+    append_member(port, vid, group, roster, to)
 }
 
 fn append_put(
@@ -178,6 +194,13 @@ fn append_del(vid: Vid, mac: Mac, to: &mut String) -> Result<(), NoMemory>
     writeln!(to, " vlan {vid}")
 }
 
+fn append_querier(six: bool, on: bool, to: &mut String) -> Result<(), NoMemory>
+    ensures { OnOk result (string_bytes to.new ≡ string_bytes to.old ++ notice_text [] (Querier six on)) }
+{
+    let (version, switch) = (version_word(six), switch_word(on));
+    writeln!(to, "querier {version} {switch}")
+}
+
 /// What the drivers are told of the change, up to its line feed.
 fn append_notice(change: &Change, roster: &Roster, to: &mut String) -> Result<(), NoMemory>
     ensures { OnOk result (string_bytes to.new ≡ string_bytes to.old ++ notice_text roster.now.ports change.now) }
@@ -192,9 +215,7 @@ fn append_notice(change: &Change, roster: &Roster, to: &mut String) -> Result<()
             writeln!(to, "netdev_going_down dev {device}")
         }
         Change::SetFlags(port, flags) => append_set_flags(port, flags, roster, to),
-        Change::SetState(port, state) => {
-            append_attribute("port_stp_state", device(roster, port), state_word(state), to)
-        }
+        Change::SetState(port, state) => append_set_state(port, state, roster, to),
         Change::VlanAdd {
             port,
             vid,
@@ -203,20 +224,13 @@ fn append_notice(change: &Change, roster: &Roster, to: &mut String) -> Result<()
         } => append_vlan_add(port, vid, untagged, pvid, roster, to),
         Change::VlanDel { port, vid } => append_vlan_del(port, vid, roster, to),
         Change::GroupJoin { port, vid, group } => {
-            to.push_str("port_obj_add ")?;
-            append_member(port, vid, group, roster, to)
+            append_group_change("port_obj_add ", port, vid, group, roster, to)
         }
         Change::GroupPart { port, vid, group } => {
-            to.push_str("port_obj_del ")?;
-            append_member(port, vid, group, roster, to)
+            append_group_change("port_obj_del ", port, vid, group, roster, to)
         }
-        Change::Router { port, on } => {
-            append_attribute("port_mrouter", device(roster, port), switch_word(on), to)
-        }
-        Change::Querier { six, on } => {
-            let (version, switch) = (version_word(six), switch_word(on));
-            writeln!(to, "querier {version} {switch}")
-        }
+        Change::Router { port, on } => append_router(port, on, roster, to),
+        Change::Querier { six, on } => append_querier(six, on, to),
         Change::Snoop(on) => {
             let switch = switch_word(!on);
             writeln!(to, "port_attr_set bridge_mc_disabled {switch}")
@@ -266,11 +280,7 @@ pub fn append_line(line: &NoticeLine, roster: &Roster, to: &mut String) -> Resul
 }
 
 /// Writes the lines behind the text, one after another. After want of memory a part of them may stand there.
-pub fn append_lines(
-    lines: &[NoticeLine],
-    roster: &Roster,
-    to: &mut String,
-) -> Result<(), NoMemory>
+pub fn append_lines(lines: &[NoticeLine], roster: &Roster, to: &mut String) -> Result<(), NoMemory>
     ensures { OnOk result (string_bytes to.new ≡ string_bytes to.old ++ text roster.now.ports lines.now) }
 {
     for line in lines {
