@@ -2,7 +2,7 @@
 ghost use Rattle.std.specs.Prelude.{◌≡◌, ◌<◌, ◌++◌, ◌∷◌, [], not, OnOk, codes, decimal};
 ghost use Rattle.std.specs.String.{string_bytes};
 ghost use Rattle.br_model.specs.Text.Spelling.{further};
-ghost use Rattle.br_model.specs.declared.change.Change.TheVariants.{AddrDel, AddrPut, Querier, Router, SetFlags, SetState, VlanAdd, VlanDel};
+ghost use Rattle.br_model.specs.declared.change.Change.TheVariants.{AddrDel, AddrPut, GroupJoin, GroupPart, Querier, Router, SetFlags, SetState, Snoop, VlanAdd, VlanDel};
 ghost use Rattle.driver_notices.specs.Lines.{flags_text, group_object as object_of_group, is_among, line_text, member_object, notice_text, state_word as word_of_state, switch_word as word_of_switch, text, version_word as word_of_version};
 
 use crate::NoMemory;
@@ -154,18 +154,29 @@ fn append_member(
     writeln!(to, " dev {device} vlan {vid}")
 }
 
-/// A member of a group comes, or goes.
-fn append_group_change(
-    event: &str,
+fn append_join(
     port: Port,
     vid: Vid,
     group: Group,
     roster: &Roster,
     to: &mut String,
 ) -> Result<(), NoMemory>
-    ensures { OnOk result (string_bytes to.new ≡ string_bytes to.old ++ (event.now ++ member_object roster.now.ports port vid group)) }
+    ensures { OnOk result (string_bytes to.new ≡ string_bytes to.old ++ notice_text roster.now.ports (GroupJoin port vid group)) }
 {
-    to.push_str(event)?;
+    to.push_str("port_obj_add ")?;
+    append_member(port, vid, group, roster, to)
+}
+
+fn append_part(
+    port: Port,
+    vid: Vid,
+    group: Group,
+    roster: &Roster,
+    to: &mut String,
+) -> Result<(), NoMemory>
+    ensures { OnOk result (string_bytes to.new ≡ string_bytes to.old ++ notice_text roster.now.ports (GroupPart port vid group)) }
+{
+    to.push_str("port_obj_del ")?;
     append_member(port, vid, group, roster, to)
 }
 
@@ -201,6 +212,13 @@ fn append_querier(six: bool, on: bool, to: &mut String) -> Result<(), NoMemory>
     writeln!(to, "querier {version} {switch}")
 }
 
+fn append_snoop(on: bool, to: &mut String) -> Result<(), NoMemory>
+    ensures { OnOk result (string_bytes to.new ≡ string_bytes to.old ++ notice_text [] (Snoop on)) }
+{
+    let switch = switch_word(!on);
+    writeln!(to, "port_attr_set bridge_mc_disabled {switch}")
+}
+
 /// What the drivers are told of the change, up to its line feed.
 fn append_notice(change: &Change, roster: &Roster, to: &mut String) -> Result<(), NoMemory>
     ensures { OnOk result (string_bytes to.new ≡ string_bytes to.old ++ notice_text roster.now.ports change.now) }
@@ -223,18 +241,11 @@ fn append_notice(change: &Change, roster: &Roster, to: &mut String) -> Result<()
             pvid,
         } => append_vlan_add(port, vid, untagged, pvid, roster, to),
         Change::VlanDel { port, vid } => append_vlan_del(port, vid, roster, to),
-        Change::GroupJoin { port, vid, group } => {
-            append_group_change("port_obj_add ", port, vid, group, roster, to)
-        }
-        Change::GroupPart { port, vid, group } => {
-            append_group_change("port_obj_del ", port, vid, group, roster, to)
-        }
+        Change::GroupJoin { port, vid, group } => append_join(port, vid, group, roster, to),
+        Change::GroupPart { port, vid, group } => append_part(port, vid, group, roster, to),
         Change::Router { port, on } => append_router(port, on, roster, to),
         Change::Querier { six, on } => append_querier(six, on, to),
-        Change::Snoop(on) => {
-            let switch = switch_word(!on);
-            writeln!(to, "port_attr_set bridge_mc_disabled {switch}")
-        }
+        Change::Snoop(on) => append_snoop(on, to),
         Change::Stp(on) => {
             let switch = switch_word(on);
             writeln!(to, "stp {switch}")
