@@ -1,4 +1,3 @@
-pub mod Steps
-pub mod Lines
 pub mod Messages
 pub mod Sessions
+pub mod Whole

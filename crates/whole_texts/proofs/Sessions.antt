@@ -20,23 +20,22 @@ use Rattle.whole_texts.specs.declared.session.Awaits.TheVariants.{Line, Section,
 use Rattle.whole_texts.specs.declared.session.Session.{Session}
 use Rattle.whole_texts.specs.declared.session.SessionFault.{SessionFault}
 use Rattle.whole_texts.specs.declared.session.SessionFault.TheVariants as faults
-use Rattle.whole_texts.specs.declared.telling.Taken.TheVariants as taken
-use Rattle.whole_texts.specs.declared.telling.Telling.{Telling}
-use Rattle.whole_texts.specs.declared.fronts.Front.{Front}
-use Rattle.whole_texts.specs.Fronts.{CutsFront}
+use Rattle.scenario_play.specs.declared.play.Taken.TheVariants as taken
+use Rattle.scenario_play.specs.declared.fronts.Front.{Front}
+use Rattle.scenario_play.specs.Fronts.{CutsFront}
 use Rattle.whole_texts.specs.Sessions.{EndsSection, Goes, HasFinished, InSection, IsAt, IsAwaiting, IsKept, IsOut, IsSectionWanted, IsSound, IsWanted, SoAt, Takes}
 use Rattle.whole_texts.specs.Sessions.{end_of, ended_of, section_of, told_at, told_so_far}
-use Rattle.whole_texts.specs.Telling.{After, AfterSection, AtSection, HasRun, IsOver, IsReady, IsSteady, IsTold, ReadsOn, Stands, last_line}
+use Rattle.scenario_play.specs.Playing.{Played, at, After, AfterSection, AtSection, HasRun, IsOver, IsReady, IsSteady, IsTold, ReadsOn, Stands, last_line}
 use Rattle.whole_texts.specs.Texts.{ends_well}
-use Rattle.whole_texts.proofs.Lines.{closes_over, reads_none}
-use Rattle.whole_texts.proofs.Steps.{steady_by, steady_of, told_is}
+use Rattle.scenario_play.proofs.Lines.{closes_over, reads_none}
+use Rattle.scenario_play.proofs.Steps.{steady_by, steady_of, told_is}
 
 -- before the first line
 
-pub opens : (x : Telling) → Stands [] (opened false) x → ReadsOn [] (opened false) (λ more. more) x
+pub opens : (x : Played) → Stands [] (opened false) x → ReadsOn [] (opened false) (λ more. more) x
 opens x h = record { scenario = opened false; reads_so = λ more. refl; stands = h }
 
-pub opens_sound : (x : Telling) → Stands [] (opened false) x → IsAwaiting Line 0 x.reader x.world
+pub opens_sound : (x : Played) → Stands [] (opened false) x → IsAwaiting Line 0 x.reader x.world
 opens_sound x h = (steady_by [] (opened false) x h, omega (arith, h.follows.lines))
 
 -- whether a line has a line feed
@@ -84,8 +83,8 @@ told_when Ended bytes well h = refl
 told_when (Bad n why) bytes well h = refl
 
 -- with its last line
-finishes : (given bytes : List ℕ) (w : Option World) (all : List ℕ) (last : Last) (y : Telling) → IsOver given (reads (opened false) bytes) w all last
-    → string_bytes y.text ≡ all ++ last_line last w → IsOut bytes given (ends_well (ending_of last)) y
+finishes : (given bytes : List ℕ) (w : Option World) (all : List ℕ) (last : Last) (y : Played) → IsOver given (reads (opened false) bytes) w all last
+    → y.text ≡ all ++ last_line last w → IsOut bytes given (ends_well (ending_of last)) y
 finishes given bytes w all last y h is = record {
   ends = ap ended_of h.ends ∙ ends_so last;
   body =
@@ -99,7 +98,7 @@ finishes given bytes w all last y h is = record {
 joined : (bytes line more : List ℕ) → (bytes ++ (line ++ 10 ∷ [])) ++ more ≡ bytes ++ (line ++ 10 ∷ more)
 joined bytes line more = append_assoc bytes (line ++ 10 ∷ []) more ∙ ap (λ (l : List ℕ). bytes ++ l) (append_assoc line (10 ∷ []) more)
 
-module _ (given bytes line : List ℕ) (x y : Telling) (h : ReadsOn given (opened false) (λ more. bytes ++ more) x) where
+module _ (given bytes line : List ℕ) (x y : Played) (h : ReadsOn given (opened false) (λ more. bytes ++ more) x) where
   line_on : ReadsOn given h.scenario (λ more. line ++ 10 ∷ more) y → ReadsOn given (opened false) (λ more. (bytes ++ (line ++ 10 ∷ [])) ++ more) y
   line_on k = record {
     scenario = k.scenario;
@@ -114,7 +113,7 @@ module _ (given bytes line : List ℕ) (x y : Telling) (h : ReadsOn given (opene
   to_section : (n : ℕ) → AtSection given h.scenario line n y → InSection (bytes ++ (line ++ 10 ∷ [])) given n y
   to_section n k = record { scenario = h.scenario; before = bytes; line = line; joined = refl; reads_so = h.reads_so; at = k }
 
-module _ (given bytes section : List ℕ) (x y : Telling) (h : InSection bytes given (length section) x) where
+module _ (given bytes section : List ℕ) (x y : Played) (h : InSection bytes given (length section) x) where
   section_on : ReadsOn given h.scenario (λ more. h.line ++ 10 ∷ (section ++ more)) y → ReadsOn given (opened false) (λ more. (bytes ++ section) ++ more) y
   section_on k = record {
     scenario = k.scenario;
@@ -138,13 +137,13 @@ module _ (given bytes section : List ℕ) (x y : Telling) (h : InSection bytes g
 -- what is told so far
 
 -- where a scenario goes on
-record IsGoing (bytes given : List ℕ) (x : Telling) : Type 0 where
+record IsGoing (bytes given : List ℕ) (x : Played) : Type 0 where
   pub scenario : Scenario
   pub is : reads (opened false) bytes ≡ scenario
   pub going : scenario.ending ≡ Going
-  pub so : IsTold given scenario x.world (string_bytes x.text)
+  pub so : IsTold given scenario x.world (x.text)
 
-at_line : (bytes given : List ℕ) (x : Telling) → ReadsOn given (opened false) (λ more. bytes ++ more) x → IsGoing bytes given x
+at_line : (bytes given : List ℕ) (x : Played) → ReadsOn given (opened false) (λ more. bytes ++ more) x → IsGoing bytes given x
 at_line bytes given x h = record {
   scenario = h.scenario;
   is =
@@ -154,7 +153,7 @@ at_line bytes given x h = record {
   so = h.stands.so;
 }
 
-at_section : (bytes given : List ℕ) (n : ℕ) (x : Telling) → 0 < n → InSection bytes given n x → IsGoing bytes given x
+at_section : (bytes given : List ℕ) (n : ℕ) (x : Played) → 0 < n → InSection bytes given n x → IsGoing bytes given x
 at_section bytes given n x some h = record {
   scenario = h.scenario;
   is =
@@ -171,42 +170,42 @@ body_is bytes =
     let keeps = closes_keeps p.scenario p.line in
     ap body_of (λ i. run (setup_of (sym keeps.0 i)) (sym keeps.1 i)) ∙ ap (λ (s : Scenario). body_of (run_of s)) (sym (scenario_is bytes))
 
-going_told : (bytes given : List ℕ) (x : Telling) → IsGoing bytes given x → given ++ string_bytes x.text ≡ told_so_far bytes
+going_told : (bytes given : List ℕ) (x : Played) → IsGoing bytes given x → given ++ x.text ≡ told_so_far bytes
 going_told bytes given x h =
     h.so.body
     ∙ ap (λ (s : Scenario). body_of (run_of s)) (sym h.is)
     ∙ body_is bytes
     ∙ sym (ap (λ (d : Ending). told_at d bytes) (ap (λ (s : Scenario). s.ending) h.is ∙ h.going))
 
-going_ends : (bytes given : List ℕ) (x : Telling) → IsGoing bytes given x → None ≡ ended_of (reads (opened false) bytes).ending
+going_ends : (bytes given : List ℕ) (x : Played) → IsGoing bytes given x → None ≡ ended_of (reads (opened false) bytes).ending
 going_ends bytes given x h = sym (ap (λ (s : Scenario). ended_of s.ending) h.is ∙ ap ended_of h.going)
 
-told_so : (a : Awaits) (bytes given : List ℕ) (x : Telling) → SoAt a bytes given x → given ++ string_bytes x.text ≡ told_so_far bytes
+told_so : (a : Awaits) (bytes given : List ℕ) (x : Played) → SoAt a bytes given x → given ++ x.text ≡ told_so_far bytes
 told_so Line bytes given x h = going_told bytes given x (at_line bytes given x h)
 told_so (Section n) bytes given x h = going_told bytes given x (at_section bytes given n x h.0 h.1)
 told_so (Nothing well) bytes given x h = h.body ∙ sym (told_when (reads (opened false) bytes).ending bytes well h.ends)
 
-pub session_told : (x : Session) (bytes given : List ℕ) → IsAt bytes given x → given ++ string_bytes x.telling.text ≡ told_so_far bytes
-session_told x bytes given h = told_so x.awaits bytes given x.telling h.so
+pub session_told : (x : Session) (bytes given : List ℕ) → IsAt bytes given x → given ++ string_bytes x.play.text ≡ told_so_far bytes
+session_told x bytes given h = told_so x.awaits bytes given (at x.play x.stage.world) h.so
 
-ends_at : (a : Awaits) (bytes given : List ℕ) (x : Telling) → SoAt a bytes given x → end_of a ≡ ended_of (reads (opened false) bytes).ending
+ends_at : (a : Awaits) (bytes given : List ℕ) (x : Played) → SoAt a bytes given x → end_of a ≡ ended_of (reads (opened false) bytes).ending
 ends_at Line bytes given x h = going_ends bytes given x (at_line bytes given x h)
 ends_at (Section n) bytes given x h = going_ends bytes given x (at_section bytes given n x h.0 h.1)
 ends_at (Nothing well) bytes given x h = sym h.ends
 
 pub session_ends : (x : Session) (bytes given : List ℕ) → IsAt bytes given x → end_of x.awaits ≡ ended_of (reads (opened false) bytes).ending
-session_ends x bytes given h = ends_at x.awaits bytes given x.telling h.so
+session_ends x bytes given h = ends_at x.awaits bytes given (at x.play x.stage.world) h.so
 
 -- what is told is let go
 
-module _ (given : List ℕ) (x y : Telling) (reader : y.reader ≡ x.reader) (world : y.world ≡ x.world) (none : string_bytes y.text ≡ []) where
+module _ (given : List ℕ) (x y : Played) (reader : y.reader ≡ x.reader) (world : y.world ≡ x.world) (none : y.text ≡ []) where
   abbrev all : List ℕ
-  all = given ++ string_bytes x.text
+  all = given ++ x.text
 
-  nothing_more : all ++ string_bytes y.text ≡ all
+  nothing_more : all ++ y.text ≡ all
   nothing_more = ap (λ (b : List ℕ). all ++ b) none ∙ append-nil all
 
-  told_less : (s : Scenario) → IsTold given s x.world (string_bytes x.text) → IsTold all s y.world (string_bytes y.text)
+  told_less : (s : Scenario) → IsTold given s x.world (x.text) → IsTold all s y.world (y.text)
   told_less s h = record {
     ran = subst (λ (w : Option World). HasRun s w) (sym world) h.ran;
     ready = subst (λ (w : Option World). IsReady s.roster w) (sym world) h.ready;
@@ -238,38 +237,38 @@ module _ (given : List ℕ) (x y : Telling) (reader : y.reader ≡ x.reader) (wo
   )
   less (Nothing well) bytes h = record { ends = h.ends; body = nothing_more ∙ h.body }
 
-module _ (x y : Session) (awaits : y.awaits ≡ x.awaits) (taken_so : y.taken ≡ x.taken) (reader : y.telling.reader ≡ x.telling.reader) (world : y.telling.world ≡ x.telling.world) where
+module _ (x y : Session) (awaits : y.awaits ≡ x.awaits) (taken_so : y.taken ≡ x.taken) (reader : y.play.reader ≡ x.play.reader) (world : y.stage.world ≡ x.stage.world) where
   pub sound_less : IsSound x → IsSound y
   sound_less h = record {
     most = subst (λ (n : ℕ). n ≤ most_bytes) (sym taken_so) h.most;
     awaiting =
-        subst (λ (a : Awaits). IsAwaiting a y.taken y.telling.reader y.telling.world) (sym awaits)
-        (subst (λ (n : ℕ). IsAwaiting x.awaits n y.telling.reader y.telling.world) (sym taken_so)
-        (subst (λ (r : ReaderState). IsAwaiting x.awaits x.taken r y.telling.world) (sym reader)
-        (subst (λ (w : Option World). IsAwaiting x.awaits x.taken x.telling.reader w) (sym world) h.awaiting)));
+        subst (λ (a : Awaits). IsAwaiting a y.taken y.play.reader y.stage.world) (sym awaits)
+        (subst (λ (n : ℕ). IsAwaiting x.awaits n y.play.reader y.stage.world) (sym taken_so)
+        (subst (λ (r : ReaderState). IsAwaiting x.awaits x.taken r y.stage.world) (sym reader)
+        (subst (λ (w : Option World). IsAwaiting x.awaits x.taken x.play.reader w) (sym world) h.awaiting)));
   }
 
-  pub lets_go : string_bytes y.telling.text ≡ [] → (bytes given : List ℕ) → IsAt bytes given x → IsAt bytes (told_so_far bytes) y
+  pub lets_go : string_bytes y.play.text ≡ [] → (bytes given : List ℕ) → IsAt bytes given x → IsAt bytes (told_so_far bytes) y
   lets_go none bytes given h =
       subst (λ (g : List ℕ). IsAt bytes g y) (session_told x bytes given h) (record {
         taken = taken_so ∙ h.taken;
-        so = subst (λ (a : Awaits). SoAt a bytes (given ++ string_bytes x.telling.text) y.telling) (sym awaits) (less given x.telling y.telling reader world none x.awaits bytes h.so);
+        so = subst (λ (a : Awaits). SoAt a bytes (given ++ string_bytes x.play.text) (at y.play y.stage.world)) (sym awaits) (less given (at x.play x.stage.world) (at y.play y.stage.world) reader world none x.awaits bytes h.so);
       })
 
 -- a line
 
 module _ (x : Session) (line : List ℕ) (sound : IsSound x) (wanted : IsWanted x line) where
-  awaiting : IsAwaiting Line x.taken x.telling.reader x.telling.world
-  awaiting = subst (λ (a : Awaits). IsAwaiting a x.taken x.telling.reader x.telling.world) wanted.awaits sound.awaiting
+  awaiting : IsAwaiting Line x.taken x.play.reader x.stage.world
+  awaiting = subst (λ (a : Awaits). IsAwaiting a x.taken x.play.reader x.stage.world) wanted.awaits sound.awaiting
 
-  pub line_few : x.telling.reader.lines ≤ x.taken
+  pub line_few : x.play.reader.lines ≤ x.taken
   line_few = awaiting.1
 
-  pub line_steady : IsSteady x.telling.reader.roster x.telling.world
+  pub line_steady : IsSteady x.play.reader.roster x.stage.world
   line_steady = awaiting.0
 
-  at : (bytes given : List ℕ) → IsAt bytes given x → ReadsOn given (opened false) (λ more. bytes ++ more) x.telling
-  at bytes given h = subst (λ (a : Awaits). SoAt a bytes given x.telling) wanted.awaits h.so
+  stands_at : (bytes given : List ℕ) → IsAt bytes given x → ReadsOn given (opened false) (λ more. bytes ++ more) (at x.play x.stage.world)
+  stands_at bytes given h = subst (λ (a : Awaits). SoAt a bytes given (at x.play x.stage.world)) wanted.awaits h.so
 
   counted : (n : ℕ) (bytes : List ℕ) → n ≡ x.taken + (length line + 1) → x.taken ≡ length bytes → n ≡ length (bytes ++ (line ++ 10 ∷ []))
   counted n bytes is taken_so = omega (arith, is, taken_so, length-append bytes (line ++ 10 ∷ []), length-append line (10 ∷ []))
@@ -278,73 +277,73 @@ module _ (x : Session) (line : List ℕ) (sound : IsSound x) (wanted : IsWanted 
     most : y.taken ≤ most_bytes
     most = subst (λ (n : ℕ). n ≤ most_bytes) (sym taken_so) wanted.room
 
-    takes_by : IsAwaiting y.awaits y.taken y.telling.reader y.telling.world
-        → ((bytes given : List ℕ) → ReadsOn given (opened false) (λ more. bytes ++ more) x.telling → SoAt y.awaits (bytes ++ (line ++ 10 ∷ [])) given y.telling) → Takes x (line ++ 10 ∷ []) y
+    takes_by : IsAwaiting y.awaits y.taken y.play.reader y.stage.world
+        → ((bytes given : List ℕ) → ReadsOn given (opened false) (λ more. bytes ++ more) (at x.play x.stage.world) → SoAt y.awaits (bytes ++ (line ++ 10 ∷ [])) given (at y.play y.stage.world)) → Takes x (line ++ 10 ∷ []) y
     takes_by waits so = record {
       sound = record { most = most; awaiting = waits };
-      at = λ bytes given h. record { taken = counted y.taken bytes taken_so h.taken; so = so bytes given (at bytes given h) };
+      at = λ bytes given h. record { taken = counted y.taken bytes taken_so h.taken; so = so bytes given (stands_at bytes given h) };
     }
 
     -- the next one is wanted
-    pub takes_line : y.awaits ≡ x.awaits → y.telling.reader.lines ≤ x.telling.reader.lines + 1 → IsSteady y.telling.reader.roster y.telling.world
-        → ((given : List ℕ) (s : Scenario) → Stands given s x.telling → After given s line y.telling taken.On) → Takes x (line ++ 10 ∷ []) y
+    pub takes_line : y.awaits ≡ x.awaits → y.play.reader.lines ≤ x.play.reader.lines + 1 → IsSteady y.play.reader.roster y.stage.world
+        → ((given : List ℕ) (s : Scenario) → Stands given s (at x.play x.stage.world) → After given s line (at y.play y.stage.world) taken.On) → Takes x (line ++ 10 ∷ []) y
     takes_line awaits lines steady after =
         let is : y.awaits ≡ Line = awaits ∙ wanted.awaits in
-        takes_by (subst (λ (a : Awaits). IsAwaiting a y.taken y.telling.reader y.telling.world) (sym is) (steady, omega (arith, lines, line_few, taken_so)))
-        (λ bytes given h. subst (λ (a : Awaits). SoAt a (bytes ++ (line ++ 10 ∷ [])) given y.telling) (sym is) (line_on given bytes line x.telling y.telling h (after given h.scenario h.stands)))
+        takes_by (subst (λ (a : Awaits). IsAwaiting a y.taken y.play.reader y.stage.world) (sym is) (steady, omega (arith, lines, line_few, taken_so)))
+        (λ bytes given h. subst (λ (a : Awaits). SoAt a (bytes ++ (line ++ 10 ∷ [])) given (at y.play y.stage.world)) (sym is) (line_on given bytes line (at x.play x.stage.world) (at y.play y.stage.world) h (after given h.scenario h.stands)))
 
     -- its section is
-    pub takes_to_section : (n : ℕ) → y.awaits ≡ Section n → 0 < n → y.telling.reader.lines ≤ x.telling.reader.lines + 1 → IsSteady y.telling.reader.roster y.telling.world
-        → (n ≤ longest_section) × IsBehindDeclarations y.telling.reader.roster
-        → ((given : List ℕ) (s : Scenario) → Stands given s x.telling → After given s line y.telling (taken.Section n)) → Takes x (line ++ 10 ∷ []) y
+    pub takes_to_section : (n : ℕ) → y.awaits ≡ Section n → 0 < n → y.play.reader.lines ≤ x.play.reader.lines + 1 → IsSteady y.play.reader.roster y.stage.world
+        → (n ≤ longest_section) × IsBehindDeclarations y.play.reader.roster
+        → ((given : List ℕ) (s : Scenario) → Stands given s (at x.play x.stage.world) → After given s line (at y.play y.stage.world) (taken.Section n)) → Takes x (line ++ 10 ∷ []) y
     takes_to_section n is some lines steady behind after =
-        takes_by (subst (λ (a : Awaits). IsAwaiting a y.taken y.telling.reader y.telling.world) (sym is) (steady, omega (arith, lines, line_few, taken_so), behind.0, behind.1))
-        (λ bytes given h. subst (λ (a : Awaits). SoAt a (bytes ++ (line ++ 10 ∷ [])) given y.telling) (sym is)
-        (some, to_section given bytes line x.telling y.telling h n (after given h.scenario h.stands)))
+        takes_by (subst (λ (a : Awaits). IsAwaiting a y.taken y.play.reader y.stage.world) (sym is) (steady, omega (arith, lines, line_few, taken_so), behind.0, behind.1))
+        (λ bytes given h. subst (λ (a : Awaits). SoAt a (bytes ++ (line ++ 10 ∷ [])) given (at y.play y.stage.world)) (sym is)
+        (some, to_section given bytes line (at x.play x.stage.world) (at y.play y.stage.world) h n (after given h.scenario h.stands)))
 
   -- a section without a byte was taken, too
-  pub takes_with_section : (w : Session) → w.taken ≡ x.taken + (length line + 1) → ((given : List ℕ) (s : Scenario) → Stands given s x.telling → After given s line w.telling (taken.Section 0))
+  pub takes_with_section : (w : Session) → w.taken ≡ x.taken + (length line + 1) → ((given : List ℕ) (s : Scenario) → Stands given s (at x.play x.stage.world) → After given s line (at w.play w.stage.world) (taken.Section 0))
       → (y : Session) → EndsSection w [] y → Takes x (line ++ 10 ∷ []) y
   takes_with_section w taken_so after y h =
       takes_by y (h.taken ∙ taken_so) h.awaiting
-      (λ bytes given k. subst (λ (b : List ℕ). SoAt y.awaits b given y.telling) (append-nil (bytes ++ (line ++ 10 ∷ [])))
-      (h.so (bytes ++ (line ++ 10 ∷ [])) given (to_section given bytes line x.telling w.telling k 0 (after given k.scenario k.stands))))
+      (λ bytes given k. subst (λ (b : List ℕ). SoAt y.awaits b given (at y.play y.stage.world)) (append-nil (bytes ++ (line ++ 10 ∷ [])))
+      (h.so (bytes ++ (line ++ 10 ∷ [])) given (to_section given bytes line (at x.play x.stage.world) (at w.play w.stage.world) k 0 (after given k.scenario k.stands))))
 
   -- it is the last one
-  pub takes_last : (w : Session) (last : Last) → w.taken ≡ x.taken + (length line + 1) → ((given : List ℕ) (s : Scenario) → Stands given s x.telling → After given s line w.telling (taken.Ends last))
+  pub takes_last : (w : Session) (last : Last) → w.taken ≡ x.taken + (length line + 1) → ((given : List ℕ) (s : Scenario) → Stands given s (at x.play x.stage.world) → After given s line (at w.play w.stage.world) (taken.Ends last))
       → (y : Session) → HasFinished w last y → Takes x (line ++ 10 ∷ []) y
   takes_last w last taken_so after y h =
-      takes_by y (h.taken ∙ taken_so) (subst (λ (a : Awaits). IsAwaiting a y.taken y.telling.reader y.telling.world) (sym h.awaits) tt)
-      (λ bytes given k. subst (λ (a : Awaits). SoAt a (bytes ++ (line ++ 10 ∷ [])) given y.telling) (sym h.awaits)
-      (finishes given (bytes ++ (line ++ 10 ∷ [])) w.telling.world (string_bytes w.telling.text) last y.telling
-      (line_over given bytes line x.telling w.telling k w.telling.world (string_bytes w.telling.text) last (after given k.scenario k.stands)) h.text))
+      takes_by y (h.taken ∙ taken_so) (subst (λ (a : Awaits). IsAwaiting a y.taken y.play.reader y.stage.world) (sym h.awaits) tt)
+      (λ bytes given k. subst (λ (a : Awaits). SoAt a (bytes ++ (line ++ 10 ∷ [])) given (at y.play y.stage.world)) (sym h.awaits)
+      (finishes given (bytes ++ (line ++ 10 ∷ [])) w.stage.world (string_bytes w.play.text) last (at y.play y.stage.world)
+      (line_over given bytes line (at x.play x.stage.world) (at w.play w.stage.world) k w.stage.world (string_bytes w.play.text) last (after given k.scenario k.stands)) h.text))
 
 -- a section
 
 module _ (x : Session) (section : List ℕ) where
   -- the next line is wanted
-  pub ends_section : (y : Session) → y.taken ≡ x.taken → y.awaits ≡ Line → y.telling.reader ≡ x.telling.reader → IsReady y.telling.reader.roster y.telling.world
-      → x.telling.reader.lines ≤ x.taken → IsBehindDeclarations x.telling.reader.roster
-      → ((given : List ℕ) (s : Scenario) (line : List ℕ) → AtSection given s line (length section) x.telling → AfterSection given s line section y.telling None) → EndsSection x section y
+  pub ends_section : (y : Session) → y.taken ≡ x.taken → y.awaits ≡ Line → y.play.reader ≡ x.play.reader → IsReady y.play.reader.roster y.stage.world
+      → x.play.reader.lines ≤ x.taken → IsBehindDeclarations x.play.reader.roster
+      → ((given : List ℕ) (s : Scenario) (line : List ℕ) → AtSection given s line (length section) (at x.play x.stage.world) → AfterSection given s line section (at y.play y.stage.world) None) → EndsSection x section y
   ends_section y taken_so is reader ready lines behind after = record {
     taken = taken_so;
-    awaiting = subst (λ (a : Awaits). IsAwaiting a y.taken y.telling.reader y.telling.world) (sym is) (
-      steady_of y.telling.reader.roster y.telling.world ready (subst (λ (r : ReaderState). IsBehindDeclarations r.roster) (sym reader) behind),
+    awaiting = subst (λ (a : Awaits). IsAwaiting a y.taken y.play.reader y.stage.world) (sym is) (
+      steady_of y.play.reader.roster y.stage.world ready (subst (λ (r : ReaderState). IsBehindDeclarations r.roster) (sym reader) behind),
       omega (arith, lines, taken_so, ap (λ (r : ReaderState). r.lines) reader),
     );
-    so = λ bytes given h. subst (λ (a : Awaits). SoAt a (bytes ++ section) given y.telling) (sym is) (section_on given bytes section x.telling y.telling h (after given h.scenario h.line h.at));
+    so = λ bytes given h. subst (λ (a : Awaits). SoAt a (bytes ++ section) given (at y.play y.stage.world)) (sym is) (section_on given bytes section (at x.play x.stage.world) (at y.play y.stage.world) h (after given h.scenario h.line h.at));
   }
 
   -- it is broken
   pub breaks_section : (w : Session) (last : Last) → w.taken ≡ x.taken
-      → ((given : List ℕ) (s : Scenario) (line : List ℕ) → AtSection given s line (length section) x.telling → AfterSection given s line section w.telling (Some last))
+      → ((given : List ℕ) (s : Scenario) (line : List ℕ) → AtSection given s line (length section) (at x.play x.stage.world) → AfterSection given s line section (at w.play w.stage.world) (Some last))
       → (y : Session) → HasFinished w last y → EndsSection x section y
   breaks_section w last taken_so after y h = record {
     taken = h.taken ∙ taken_so;
-    awaiting = subst (λ (a : Awaits). IsAwaiting a y.taken y.telling.reader y.telling.world) (sym h.awaits) tt;
-    so = λ bytes given k. subst (λ (a : Awaits). SoAt a (bytes ++ section) given y.telling) (sym h.awaits)
-        (finishes given (bytes ++ section) w.telling.world (string_bytes w.telling.text) last y.telling
-        (section_over given bytes section x.telling w.telling k w.telling.world (string_bytes w.telling.text) last (after given k.scenario k.line k.at)) h.text);
+    awaiting = subst (λ (a : Awaits). IsAwaiting a y.taken y.play.reader y.stage.world) (sym h.awaits) tt;
+    so = λ bytes given k. subst (λ (a : Awaits). SoAt a (bytes ++ section) given (at y.play y.stage.world)) (sym h.awaits)
+        (finishes given (bytes ++ section) w.stage.world (string_bytes w.play.text) last (at y.play y.stage.world)
+        (section_over given bytes section (at x.play x.stage.world) (at w.play w.stage.world) k w.stage.world (string_bytes w.play.text) last (after given k.scenario k.line k.at)) h.text);
   }
 
 more_taken : (a : Awaits) (n k : ℕ) (r : ReaderState) (w : Option World) → IsAwaiting a n r w → n ≤ k → IsAwaiting a k r w
@@ -353,23 +352,23 @@ more_taken (Section m) n k r w h more = (h.0, omega (arith, h.1, more), h.2, h.3
 more_taken (Nothing well) n k r w h more = tt
 
 module _ (x : Session) (section : List ℕ) (sound : IsSound x) (wanted : IsSectionWanted x section) where
-  pub section_awaiting : IsAwaiting (Section (length section)) x.taken x.telling.reader x.telling.world
-  section_awaiting = subst (λ (a : Awaits). IsAwaiting a x.taken x.telling.reader x.telling.world) wanted.awaits sound.awaiting
+  pub section_awaiting : IsAwaiting (Section (length section)) x.taken x.play.reader x.stage.world
+  section_awaiting = subst (λ (a : Awaits). IsAwaiting a x.taken x.play.reader x.stage.world) wanted.awaits sound.awaiting
 
-  pub takes_section : (y z : Session) → EndsSection x section y → z.taken ≡ y.taken + length section → z.awaits ≡ y.awaits → z.telling ≡ y.telling → Takes x section z
+  pub takes_section : (y z : Session) → EndsSection x section y → z.taken ≡ y.taken + length section → z.awaits ≡ y.awaits → (at z.play z.stage.world) ≡ (at y.play y.stage.world) → Takes x section z
   takes_section y z h taken_so awaits telling = record {
     sound = record {
       most = omega (arith, taken_so, h.taken, wanted.room);
       awaiting =
-          subst (λ (a : Awaits). IsAwaiting a z.taken z.telling.reader z.telling.world) (sym awaits)
-          (subst (λ (t : Telling). IsAwaiting y.awaits z.taken t.reader t.world) (sym telling)
-          (more_taken y.awaits y.taken z.taken y.telling.reader y.telling.world h.awaiting (omega (arith, taken_so))));
+          subst (λ (a : Awaits). IsAwaiting a z.taken z.play.reader z.stage.world) (sym awaits)
+          (subst (λ (t : Played). IsAwaiting y.awaits z.taken t.reader t.world) (sym telling)
+          (more_taken y.awaits y.taken z.taken y.play.reader y.stage.world h.awaiting (omega (arith, taken_so))));
     };
     at = λ bytes given k. record {
       taken = omega (arith, taken_so, h.taken, k.taken, length-append bytes section);
       so =
-          let i = (subst (λ (a : Awaits). SoAt a bytes given x.telling) wanted.awaits k.so).1 in
-          subst (λ (a : Awaits). SoAt a (bytes ++ section) given z.telling) (sym awaits)
-          (subst (λ (t : Telling). SoAt y.awaits (bytes ++ section) given t) (sym telling) (h.so bytes given i));
+          let i = (subst (λ (a : Awaits). SoAt a bytes given (at x.play x.stage.world)) wanted.awaits k.so).1 in
+          subst (λ (a : Awaits). SoAt a (bytes ++ section) given (at z.play z.stage.world)) (sym awaits)
+          (subst (λ (t : Played). SoAt y.awaits (bytes ++ section) given t) (sym telling) (h.so bytes given i));
     };
   }

@@ -17,8 +17,7 @@ use Rattle.whole_texts.specs.declared.session.Awaits.TheVariants.{Line, Section,
 use Rattle.whole_texts.specs.declared.session.Session.{Session}
 use Rattle.whole_texts.specs.declared.session.SessionFault.{SessionFault}
 use Rattle.whole_texts.specs.declared.session.SessionFault.TheVariants as faults
-use Rattle.whole_texts.specs.declared.telling.Telling.{Telling}
-use Rattle.whole_texts.specs.Telling.{AtSection, IsSteady, ReadsOn, last_line}
+use Rattle.scenario_play.specs.Playing.{AtSection, IsSteady, Played, ReadsOn, at, last_line}
 use Rattle.whole_texts.specs.Texts.{ends_well}
 
 -- what is told
@@ -53,7 +52,7 @@ end_of (Section n) = None
 end_of (Nothing well) = Some well
 
 -- The last one of these lines is `capture` with so many bytes, which are next.
-pub record InSection (bytes given : List ℕ) (n : ℕ) (x : Telling) : Type 0 where
+pub record InSection (bytes given : List ℕ) (n : ℕ) (x : Played) : Type 0 where
   pub scenario : Scenario
   pub before : List ℕ
   pub line : List ℕ
@@ -62,11 +61,11 @@ pub record InSection (bytes given : List ℕ) (n : ℕ) (x : Telling) : Type 0 w
   pub at : AtSection given scenario line n x
 
 -- The scenario has ended with these bytes.
-pub record IsOut (bytes given : List ℕ) (well : Bool) (x : Telling) : Type 0 where
+pub record IsOut (bytes given : List ℕ) (well : Bool) (x : Played) : Type 0 where
   pub ends : ended_of (reads (opened false) bytes).ending ≡ Some well
-  pub body : given ++ string_bytes x.text ≡ told bytes
+  pub body : given ++ x.text ≡ told bytes
 
-abbrev pub SoAt : Awaits → List ℕ → List ℕ → Telling → Type 0
+abbrev pub SoAt : Awaits → List ℕ → List ℕ → Played → Type 0
 SoAt Line bytes given x = ReadsOn given (opened false) (λ more. bytes ++ more) x
 SoAt (Section n) bytes given x = (0 < n) × InSection bytes given n x
 SoAt (Nothing well) bytes given x = IsOut bytes given well x
@@ -74,7 +73,7 @@ SoAt (Nothing well) bytes given x = IsOut bytes given well x
 -- The session has taken these bytes, and of what is told of them it has let go what was given.
 pub record IsAt (bytes given : List ℕ) (x : Session) : Type 0 where
   pub taken : x.taken ≡ length bytes
-  pub so : SoAt x.awaits bytes given x.telling
+  pub so : SoAt x.awaits bytes given (at x.play x.stage.world)
 
 -- what holds of each session
 
@@ -85,7 +84,7 @@ IsAwaiting (Nothing well) taken r w = Unit {0}
 
 pub record IsSound (x : Session) : Type 0 where
   pub most : x.taken ≤ most_bytes
-  pub awaiting : IsAwaiting x.awaits x.taken x.telling.reader x.telling.world
+  pub awaiting : IsAwaiting x.awaits x.taken x.play.reader x.stage.world
 
 -- what a call has done
 
@@ -143,10 +142,10 @@ Admits wanted refuses (Err fault) = refuses fault
 pub record HasFinished (old : Session) (last : Last) (new : Session) : Type 0 where
   pub taken : new.taken ≡ old.taken
   pub awaits : new.awaits ≡ Nothing (ends_well (ending_of last))
-  pub text : string_bytes new.telling.text ≡ string_bytes old.telling.text ++ last_line last old.telling.world
+  pub text : string_bytes new.play.text ≡ string_bytes old.play.text ++ last_line last old.stage.world
 
 -- the section of the line before was taken, but isn't counted
 pub record EndsSection (old : Session) (section : List ℕ) (new : Session) : Type 0 where
   pub taken : new.taken ≡ old.taken
-  pub awaiting : IsAwaiting new.awaits new.taken new.telling.reader new.telling.world
-  pub so : (bytes given : List ℕ) → InSection bytes given (length section) old.telling → SoAt new.awaits (bytes ++ section) given new.telling
+  pub awaiting : IsAwaiting new.awaits new.taken new.play.reader new.stage.world
+  pub so : (bytes given : List ℕ) → InSection bytes given (length section) (at old.play old.stage.world) → SoAt new.awaits (bytes ++ section) given (at new.play new.stage.world)

@@ -6,10 +6,10 @@ ghost use Rattle.neigh_netlink.specs.MessageLines.{ending_of};
 ghost use Rattle.whole_texts.specs.Messages.{EndsSo, TellsTable, lines_end_well};
 
 use crate::NoMemory;
-use crate::fronts::first_line;
 use crate::replaying::Told;
 use br_model::limits::LONGEST_LINE;
 use neigh_netlink::{FollowEnd, Follower};
+use scenario_play::first_line;
 use std::alloc::Global;
 
 /// Takes all lines, by a follower that has taken none.

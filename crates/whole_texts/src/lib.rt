@@ -3,11 +3,10 @@
 #![tactic(auto)]
 
 mod following;
-mod fronts;
 mod heap_world;
+mod lone;
 mod replaying;
 mod session;
-mod telling;
 
 pub use br_model::NoMemory;
 pub use following::follow;

@@ -5,7 +5,8 @@ ghost use Rattle.scenario_reader.specs.Reading.{ending_of};
 ghost use Rattle.whole_texts.specs.Texts.{TellsWhole, ends_well};
 
 use crate::NoMemory;
-use crate::telling::Telling;
+use crate::lone::Lone;
+use scenario_play::Play;
 use scenario_reader::Last;
 use std::alloc::Global;
 
@@ -35,11 +36,12 @@ pub fn replay(alloc: Global, scenario: &[u8]) -> Result<Told, NoMemory>
     requires { length scenario.now ≤ most_bytes }
     ensures { IfOk result (TellsWhole scenario.now) }
 {
-    let mut telling = Telling::make(alloc)?;
-    let last = telling.read(alloc, scenario)?;
-    let text = telling.end(last)?;
+    let mut stage = Lone::new();
+    let mut play = Play::make(alloc)?;
+    let last = play.read(&mut stage, alloc, scenario)?;
+    play.append_last(&stage, last)?;
     Ok(Told {
-        text,
+        text: play.into_text(),
         well: is_well(last),
     })
 }

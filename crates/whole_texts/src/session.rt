@@ -5,13 +5,13 @@ ghost use Rattle.br_model.specs.Text.Scenario.{opened, reads};
 ghost use Rattle.br_model.specs.Theorems.Invariants.{IsWorld};
 ghost use Rattle.scenario_reader.specs.Reading.{IsBehindDeclarations};
 ghost use Rattle.whole_texts.specs.Sessions.{Admits, EndsSection, Goes, HasFinished, IsAt, IsSectionWanted, IsSound, IsWanted, RefusesLine, RefusesSection, Takes, end_of, ended_of, told_so_far};
-ghost use Rattle.whole_texts.specs.Telling.{IsSteady};
+ghost use Rattle.scenario_play.specs.Playing.{IsSteady};
 
 use crate::NoMemory;
-use crate::fronts::first_line;
+use crate::lone::Lone;
 use crate::replaying::is_well;
-use crate::telling::{Taken, Telling};
 use br_model::limits::MOST_BYTES;
+use scenario_play::{Play, Taken, first_line};
 use scenario_reader::Last;
 use std::alloc::Global;
 
@@ -42,7 +42,8 @@ pub enum SessionFault {
 /// A scenario that is taken line by line, each with its section, up to its end or its first bad line.
 #[derive(Drop)]
 pub struct Session {
-    telling: Telling,
+    play: Play,
+    stage: Lone,
     awaits: Awaits,
     taken: usize,
 }
@@ -58,7 +59,8 @@ impl Session {
         ensures at { IfOk result (IsAt [] []) }
     {
         Ok(Session {
-            telling: Telling::make(alloc)?,
+            play: Play::make(alloc)?,
+            stage: Lone::new(),
             awaits: Awaits::Line,
             taken: 0,
         })
@@ -106,10 +108,10 @@ impl Session {
 
     /// The scenario ends so.
     fn finish(&mut self, last: Last) -> Result<(), NoMemory>
-        requires { IfSome self.old.telling.world IsWorld }
+        requires { IfSome self.old.stage.world IsWorld }
         ensures { OnOk result (HasFinished self.old last self.new) }
     {
-        self.telling.append_last(last)?;
+        self.play.append_last(&self.stage, last)?;
         self.awaits = Awaits::Nothing {
             well: is_well(last),
         };
@@ -118,13 +120,13 @@ impl Session {
 
     /// Takes the section of the line before.
     fn end_section(&mut self, alloc: Global, section: &[u8]) -> Result<(), NoMemory>
-        requires steady { IsSteady self.old.telling.reader.roster self.old.telling.world }
-        requires lines { self.old.telling.reader.lines ≤ self.old.taken }
+        requires steady { IsSteady self.old.play.reader.roster self.old.stage.world }
+        requires lines { self.old.play.reader.lines ≤ self.old.taken }
         requires most { length section.now ≤ longest_section }
-        requires behind { IsBehindDeclarations self.old.telling.reader.roster }
+        requires behind { IsBehindDeclarations self.old.play.reader.roster }
         ensures { OnOk result (EndsSection self.old section.now self.new) }
     {
-        match self.telling.take_section(alloc, section)? {
+        match self.play.take_section(&mut self.stage, alloc, section)? {
             None => {
                 self.awaits = Awaits::Line;
                 Ok(())
@@ -139,7 +141,7 @@ impl Session {
         requires wanted { IsWanted self.old line.now }
         ensures { OnOk result (Takes self.old (line.now ++ 10 ∷ []) self.new) }
     {
-        let taken = self.telling.take(alloc, line)?;
+        let taken = self.play.take(&mut self.stage, alloc, line)?;
         self.taken += line.len() + 1;
         match taken {
             Taken::On => Ok(()),
@@ -193,7 +195,7 @@ impl Session {
     pub fn told(&self) -> &[u8]
         ensures { (bytes given : List ℕ) → IsAt bytes given self.now → given ++ result.now ≡ told_so_far bytes }
     {
-        self.telling.text()
+        self.play.text()
     }
 
     /// Lets go what is told.
@@ -203,7 +205,7 @@ impl Session {
         ensures awaits { self.new.awaits ≡ self.old.awaits }
         ensures at { (bytes given : List ℕ) → IsAt bytes given self.old → IsAt bytes (told_so_far bytes) self.new }
     {
-        self.telling.let_go();
+        self.play.let_go();
     }
 
     /// Whether the scenario has ended, and by its line `end`.

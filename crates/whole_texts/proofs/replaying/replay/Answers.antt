@@ -1,9 +1,11 @@
+use Rattle.std.proofs.Common.{◌∙◌}
 use Rattle.br_model.specs.Text.Scenario.{scenario}
-use Rattle.whole_texts.proofs.Steps.{stands_by, tells_whole}
+use Rattle.scenario_play.proofs.Steps.{stands_by}
+use Rattle.whole_texts.proofs.Whole.{tells_whole}
 use Rattle.whole_texts.proofs.replaying.replay.Goals as goal
 
-pub end-requires : goal.end-requires
-end-requires c = stands_by (scenario c.args.scenario.now).roster c.read.new.self.world c.in_ok-last.ensures.so.ready
+pub append_last-requires : goal.append_last-requires
+append_last-requires c = stands_by (scenario c.args.scenario.now).roster c.read.new.stage.world c.in_ok-last.ensures.so.ready
 
 pub returns : goal.returns
-returns c = tells_whole c.args.scenario.now _ _ c.in_ok-last.last _ c.in_ok-last.ensures c.in_ok-text.ensures c.is_well.ensures
+returns c = tells_whole c.args.scenario.now _ _ c.in_ok-last.last _ c.in_ok-last.ensures (c.into_text.ensures ∙ c.in_ok-append_last.ensures.text) c.is_well.ensures

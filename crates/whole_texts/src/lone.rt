@@ -1,0 +1,59 @@
+//! What a scenario is played on here.
+ghost use Rattle.std.specs.Prelude.{◌≡◌, None};
+
+use crate::NoMemory;
+use crate::heap_world::HeapWorld;
+use br_model::domains::Domains;
+use br_model::numbers::Mac;
+use br_model::steps::Step;
+use br_model::transcript::Line;
+use scenario_play::Stage;
+use std::alloc::Global;
+use transcript_lines::Lines;
+
+/// A world on the heap alone, once it was made.
+#[derive(Drop)]
+pub(crate) struct Lone {
+    world: Option<HeapWorld>,
+}
+
+impl Lone {
+    /// Before the first step.
+    pub(crate) fn new() -> Lone
+        ensures { result.world ≡ None }
+    {
+        Lone { world: None }
+    }
+}
+
+impl Stage for Lone {
+    ghost world = { λ s. s.world };
+
+    fn has_begun(&self) -> bool {
+        self.world.is_some()
+    }
+
+    fn begin(&mut self, alloc: Global, domains: Domains, own: Mac) -> Result<(), NoMemory> {
+        self.world = Some(HeapWorld::make(alloc, domains, own)?);
+        Ok(())
+    }
+
+    fn step(&mut self, alloc: Global, step: Step, lines: &mut Lines) -> Result<(), NoMemory> {
+        match &mut self.world {
+            Some(world) => world.step(alloc, step, lines),
+            None => unreachable!(),
+        }
+    }
+
+    fn end_line(&self) -> Line {
+        match &self.world {
+            Some(world) => world.end_line(),
+            None => Line::End {
+                steps: 0,
+                changes: 0,
+                pending: 0,
+                waiting: 0,
+            },
+        }
+    }
+}
