@@ -248,6 +248,18 @@ pub does_written : (x y : Played) (step : Step) (lines : List Line) → y.reader
 does_written x y step lines reader d is =
     record { reader = reader; done = subst (λ (l : List Line). IsDone x.reader.roster x.stage step y.stage l) d.lines d; text = is ∙ ap (λ (l : List Line). x.text ++ text l) d.lines }
 
+pub does_cut : {A E : Type 0} (cut appended : Result A E) (x y : Played) (step : Step) (lines : List Line) (whole : List ℕ) → cut ≡ appended → OnOk cut (y.text ≡ whole)
+    → OnOk appended (whole ≡ x.text ++ text lines) → y.reader ≡ x.reader → IsDone x.reader.roster x.stage step y.stage lines → OnOk cut (Does x step y)
+does_cut {A} {E} (Ok a) appended x y step lines whole same is wrote reader d =
+    does_written x y step lines reader d (is ∙ subst (λ (r : Result A E). OnOk r (whole ≡ x.text ++ text lines)) (sym same) wrote)
+does_cut (Err e) appended x y step lines whole same is wrote reader d = is
+
+pub does_ready : (x y : Played) (step : Step) → Does x step y → IsReady y.reader.roster y.stage.world
+does_ready x y step d = subst (λ (r : ReaderState). IsReady r.roster y.stage.world) (sym d.reader) d.done.ready
+
+pub does_fits : (x y : Played) (step : Step) → Does x step y → Fits y.reader.roster y.stage
+does_fits x y step d = fits_at x.reader.roster y.reader.roster y.stage (ap (λ (r : ReaderState). r.roster.check) d.reader) d.done.fits
+
 -- steps
 
 body_more : (s : Scenario) (step : Step) → body_of (run_of (with_steps s (step ∷ []))) ≡ body_of (run_of s) ++ text (world_step (run_of s).0 step).1

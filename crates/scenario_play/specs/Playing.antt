@@ -95,12 +95,12 @@ pub record HasBegun (roster : Roster) (old new : Standing) : Type 0 where
   pub also : (s : Scenario) → HasRun s old.world → setup_of roster ≡ setup_of s.roster → AlsoIn old.world old.also s → new.also (setup_of s.roster) s.steps
 
 -- a step was done, and has these lines
-pub record IsDone (roster : Roster) (old : Standing) (step : Step) (new : Standing) (lines : List Line) : Type 0 where
+pub record IsDone (roster : Roster) (old : Standing) (step : Step) (new : Standing) (told : List Line) : Type 0 where
   pub ready : IsReady roster new.world
   pub fits : Fits roster new
   pub keeps : Keeps old new
   pub world : new.world ≡ Some (world_step (world_of roster old.world) step).0
-  pub lines : lines ≡ (world_step (world_of roster old.world) step).1
+  pub lines : told ≡ (world_step (world_of roster old.world) step).1
   pub also : (s : Scenario) → HasRun s old.world → setup_of roster ≡ setup_of s.roster → AlsoIn old.world old.also s
       → new.also (setup_of s.roster) (s.steps ++ step ∷ [])
 

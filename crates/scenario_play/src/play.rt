@@ -122,7 +122,8 @@ impl Play {
         ensures err { OnErr result (string_bytes text.new ≡ string_bytes text.old) }
     {
         self.told.clear();
-        do_step(stage, alloc, self.reader.roster(), step, &mut self.told)?;
+        let roster = self.reader.roster();
+        do_step(stage, alloc, roster, step, &mut self.told)?;
         let whole = text.as_bytes().len();
         let appended = self.writer.append_lines(&self.told, text);
         cut_if_torn(appended, whole, text)
@@ -271,11 +272,11 @@ impl Play {
     }
 
     /// How the scenario ends where its bytes end in this line.
-    fn close<W: Stage>(&self, stage: &W, rest: &[u8], text: &str) -> Last
+    fn close<W: Stage>(&self, stage: &W, rest: &[u8]) -> Last
         requires few { self.now.reader.lines < 2 ^ 32 - 1 }
         requires feedless { is_line rest.now ≡ true }
-        ensures { (s : Scenario) → Stands [] s (played self.now (W.stands stage.now) text.now)
-            → IsOver [] (closing (read 0 s rest.now)) (W.stands stage.now) text.now result }
+        ensures { (s : Scenario) (text : List ℕ) → Stands [] s (played self.now (W.stands stage.now) text)
+            → IsOver [] (closing (read 0 s rest.now)) (W.stands stage.now) text result }
     {
         if rest.len() > LONGEST_LINE {
             return self.reader.bad(LineWhy::Long);
@@ -303,7 +304,7 @@ impl Play {
                 Went::Ends(last) => return Ok(last),
             }
         }
-        Ok(self.close(stage, rest, text))
+        Ok(self.close(stage, rest))
     }
 
     /// Writes the last line of a scenario that ends so. After want of memory a part of it may stand there.
