@@ -1,4 +1,4 @@
-use Rattle.std.proofs.Common.{arith}
+use Rattle.std.proofs.Common.{[], arith}
 use Rattle.scenario_play.proofs.Lines.{rest_closes, rest_too_long}
 use Rattle.scenario_play.proofs.play.Play.close.Goals as goal
 

@@ -1,8 +1,8 @@
 use Rattle.std.proofs.Common.{arith, subst, sym}
 use Rattle.br_model.specs.Text.Roster.{Roster}
 use Rattle.scenario_play.specs.Playing.{Fits, IsSteady}
-use Rattle.scenario_play.proofs.Lines.{goes_by_step, goes_quietly, line_ends, line_too_long, section_behind, section_fits, section_steady, some_scenario}
-use Rattle.scenario_play.proofs.Lines.{step_given, step_ready, step_steady, to_section, took, took_of}
+use Rattle.scenario_play.proofs.Lines.{goes_by_step, goes_quietly, line_ends, section_behind, section_fits, section_steady, some_scenario}
+use Rattle.scenario_play.proofs.Lines.{step_fits, step_given, step_ready, step_steady, to_section, took, took_of, whole_line_too_long}
 use Rattle.scenario_play.proofs.Steps.{does_fits, does_ready, fits_at, ready_of, steady_kept}
 use Rattle.scenario_play.proofs.play.Play.take.Goals as goal
 
