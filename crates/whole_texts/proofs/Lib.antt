@@ -1,3 +1,4 @@
 pub mod Messages
 pub mod Sessions
 pub mod Whole
+pub mod Stages

@@ -1,6 +1,7 @@
 -- A session takes a line or a section more, and lets go what it has told.
 use Rattle.std.proofs.Common.{◌≡◌, ℕ, ◌+◌, ◌<◌, ◌≤◌, Bool, true, false, is_some, List, [], ◌∷◌, ◌++◌, length, Option, None, Some, Result, Err, refl, sym, ◌∙◌, ap, subst}
-use Rattle.std.proofs.Common.{arith, append_assoc, length-append, string_bytes}
+use Rattle.std.proofs.Common.{String, arith, append_assoc, length-append, string_bytes}
+use Rattle.std.specs.declared.alloc.Global.{Global}
 use Rattle.std.proofs.lemmas.Bool.{and_right}
 use Rattle.std.proofs.lemmas.List.{append-nil}
 use Rattle.std.proofs.lemmas.List.Folds.{list_all-append}
@@ -24,10 +25,11 @@ use Rattle.scenario_play.specs.declared.play.Taken.TheVariants as taken
 use Rattle.scenario_play.specs.declared.fronts.Front.{Front}
 use Rattle.scenario_play.specs.Fronts.{CutsFront}
 use Rattle.whole_texts.specs.Sessions.{EndsSection, Goes, HasFinished, InSection, IsAt, IsAwaiting, IsKept, IsOut, IsSectionWanted, IsSound, IsWanted, SoAt, Takes}
-use Rattle.whole_texts.specs.Sessions.{end_of, ended_of, section_of, told_at, told_so_far}
-use Rattle.scenario_play.specs.Playing.{Played, at, After, AfterSection, AtSection, HasRun, IsOver, IsReady, IsSteady, IsTold, ReadsOn, Stands, last_line}
+use Rattle.whole_texts.specs.Sessions.{end_of, ended_of, section_of, state, told_at, told_so_far}
+use Rattle.scenario_play.specs.Stages.{Standing}
+use Rattle.scenario_play.specs.Playing.{Played, After, AfterSection, AtSection, EndsIn, IsOver, IsReady, IsSteady, IsTold, ReadsOn, Stands, last_line}
 use Rattle.whole_texts.specs.Texts.{ends_well}
-use Rattle.scenario_play.proofs.Lines.{closes_over, reads_none}
+use Rattle.scenario_play.proofs.Lines.{closes_over, over_at, reads_none}
 use Rattle.scenario_play.proofs.Steps.{steady_by, steady_of, told_is}
 
 -- before the first line
@@ -35,7 +37,7 @@ use Rattle.scenario_play.proofs.Steps.{steady_by, steady_of, told_is}
 pub opens : (x : Played) → Stands [] (opened false) x → ReadsOn [] (opened false) (λ more. more) x
 opens x h = record { scenario = opened false; reads_so = λ more. refl; stands = h }
 
-pub opens_sound : (x : Played) → Stands [] (opened false) x → IsAwaiting Line 0 x.reader x.world
+pub opens_sound : (x : Played) → Stands [] (opened false) x → IsAwaiting Line 0 x.reader x.stage.world
 opens_sound x h = (steady_by [] (opened false) x h, omega (arith, h.follows.lines))
 
 -- whether a line has a line feed
@@ -83,8 +85,8 @@ told_when Ended bytes well h = refl
 told_when (Bad n why) bytes well h = refl
 
 -- with its last line
-finishes : (given bytes : List ℕ) (w : Option World) (all : List ℕ) (last : Last) (y : Played) → IsOver given (reads (opened false) bytes) w all last
-    → y.text ≡ all ++ last_line last w → IsOut bytes given (ends_well (ending_of last)) y
+finishes : (given bytes : List ℕ) (w : Standing) (all : List ℕ) (last : Last) (y : Played) → IsOver given (reads (opened false) bytes) w all last
+    → y.text ≡ all ++ last_line last w.world → IsOut bytes given (ends_well (ending_of last)) y
 finishes given bytes w all last y h is = record {
   ends = ap ended_of h.ends ∙ ends_so last;
   body =
@@ -106,9 +108,11 @@ module _ (given bytes line : List ℕ) (x y : Played) (h : ReadsOn given (opened
     stands = k.stands;
   }
 
-  line_over : (w : Option World) (all : List ℕ) (last : Last) → ((more : List ℕ) → IsOver given (reads h.scenario (line ++ 10 ∷ more)) w all last)
-      → IsOver given (reads (opened false) (bytes ++ (line ++ 10 ∷ []))) w all last
-  line_over w all last k = subst (λ (s : Scenario). IsOver given s w all last) (sym (ap (λ (p : Progress). p.scenario) (h.reads_so (line ++ 10 ∷ [])))) (k [])
+  line_over : (last : Last) → EndsIn given h.scenario (λ more. line ++ 10 ∷ more) y last
+      → IsOver given (reads (opened false) (bytes ++ (line ++ 10 ∷ []))) y.stage y.text last
+  line_over last k =
+      over_at given (reads (opened false) (bytes ++ (line ++ 10 ∷ []))) k.scenario y.stage y.text last
+      (ap (λ (p : Progress). p.scenario) (h.reads_so (line ++ 10 ∷ [])) ∙ k.reads_so []) k.over
 
   to_section : (n : ℕ) → AtSection given h.scenario line n y → InSection (bytes ++ (line ++ 10 ∷ [])) given n y
   to_section n k = record { scenario = h.scenario; before = bytes; line = line; joined = refl; reads_so = h.reads_so; at = k }
@@ -125,14 +129,14 @@ module _ (given bytes section : List ℕ) (x y : Played) (h : InSection bytes gi
     stands = k.stands;
   }
 
-  section_over : (w : Option World) (all : List ℕ) (last : Last) → ((more : List ℕ) → IsOver given (reads h.scenario (h.line ++ 10 ∷ (section ++ more))) w all last)
-      → IsOver given (reads (opened false) (bytes ++ section)) w all last
-  section_over w all last k =
+  section_over : (last : Last) → EndsIn given h.scenario (λ more. h.line ++ 10 ∷ (section ++ more)) y last
+      → IsOver given (reads (opened false) (bytes ++ section)) y.stage y.text last
+  section_over last k =
       let so : read 0 (opened false) (bytes ++ section) ≡ read 0 h.scenario (h.line ++ 10 ∷ (section ++ [])) =
       ap (λ (b : List ℕ). read 0 (opened false) b) (ap (λ (b : List ℕ). b ++ section) h.joined ∙ joined h.before h.line section)
       ∙ h.reads_so (h.line ++ 10 ∷ section)
       ∙ ap (λ (b : List ℕ). read 0 h.scenario (h.line ++ 10 ∷ b)) (sym (append-nil section)) in
-      subst (λ (s : Scenario). IsOver given s w all last) (sym (ap (λ (p : Progress). p.scenario) so)) (k [])
+      over_at given (reads (opened false) (bytes ++ section)) k.scenario y.stage y.text last (ap (λ (p : Progress). p.scenario) so ∙ k.reads_so []) k.over
 
 -- what is told so far
 
@@ -141,7 +145,7 @@ record IsGoing (bytes given : List ℕ) (x : Played) : Type 0 where
   pub scenario : Scenario
   pub is : reads (opened false) bytes ≡ scenario
   pub going : scenario.ending ≡ Going
-  pub so : IsTold given scenario x.world (x.text)
+  pub so : IsTold given scenario x.stage x.text
 
 at_line : (bytes given : List ℕ) (x : Played) → ReadsOn given (opened false) (λ more. bytes ++ more) x → IsGoing bytes given x
 at_line bytes given x h = record {
@@ -185,8 +189,8 @@ told_so Line bytes given x h = going_told bytes given x (at_line bytes given x h
 told_so (Section n) bytes given x h = going_told bytes given x (at_section bytes given n x h.0 h.1)
 told_so (Nothing well) bytes given x h = h.body ∙ sym (told_when (reads (opened false) bytes).ending bytes well h.ends)
 
-pub session_told : (x : Session) (bytes given : List ℕ) → IsAt bytes given x → given ++ string_bytes x.play.text ≡ told_so_far bytes
-session_told x bytes given h = told_so x.awaits bytes given (at x.play x.stage.world) h.so
+pub session_told : (x : Session) (bytes given : List ℕ) → IsAt bytes given x → given ++ string_bytes x.text ≡ told_so_far bytes
+session_told x bytes given h = told_so x.awaits bytes given (state x) h.so
 
 ends_at : (a : Awaits) (bytes given : List ℕ) (x : Played) → SoAt a bytes given x → end_of a ≡ ended_of (reads (opened false) bytes).ending
 ends_at Line bytes given x h = going_ends bytes given x (at_line bytes given x h)
@@ -194,66 +198,46 @@ ends_at (Section n) bytes given x h = going_ends bytes given x (at_section bytes
 ends_at (Nothing well) bytes given x h = sym h.ends
 
 pub session_ends : (x : Session) (bytes given : List ℕ) → IsAt bytes given x → end_of x.awaits ≡ ended_of (reads (opened false) bytes).ending
-session_ends x bytes given h = ends_at x.awaits bytes given (at x.play x.stage.world) h.so
+session_ends x bytes given h = ends_at x.awaits bytes given (state x) h.so
 
 -- what is told is let go
 
-module _ (given : List ℕ) (x y : Played) (reader : y.reader ≡ x.reader) (world : y.world ≡ x.world) (none : y.text ≡ []) where
+module _ (given : List ℕ) (x : Played) (rest : List ℕ) (none : rest ≡ []) where
   abbrev all : List ℕ
   all = given ++ x.text
 
-  nothing_more : all ++ y.text ≡ all
+  abbrev y : Played
+  y = record { reader = x.reader; stage = x.stage; text = rest }
+
+  nothing_more : all ++ rest ≡ all
   nothing_more = ap (λ (b : List ℕ). all ++ b) none ∙ append-nil all
 
-  told_less : (s : Scenario) → IsTold given s x.world (x.text) → IsTold all s y.world (y.text)
-  told_less s h = record {
-    ran = subst (λ (w : Option World). HasRun s w) (sym world) h.ran;
-    ready = subst (λ (w : Option World). IsReady s.roster w) (sym world) h.ready;
-    body = nothing_more ∙ h.body;
-  }
+  told_less : (s : Scenario) → IsTold given s x.stage x.text → IsTold all s x.stage rest
+  told_less s h = record { ran = h.ran; ready = h.ready; also = h.also; body = nothing_more ∙ h.body }
 
   less : (a : Awaits) (bytes : List ℕ) → SoAt a bytes given x → SoAt a bytes all y
   less Line bytes h = record {
     scenario = h.scenario;
     reads_so = h.reads_so;
-    stands = record { follows = subst (λ (r : ReaderState). Follows h.scenario r) (sym reader) h.stands.follows; so = told_less h.scenario h.stands.so };
+    stands = record { follows = h.stands.follows; so = told_less h.scenario h.stands.so };
   }
-  less (Section n) bytes h = (
-    h.0,
-    record {
-      scenario = h.1.scenario;
-      before = h.1.before;
-      line = h.1.line;
-      joined = h.1.joined;
-      reads_so = h.1.reads_so;
-      at = record {
-        feedless = h.1.at.feedless;
-        says = h.1.at.says;
-        going = h.1.at.going;
-        follows = subst (λ (r : ReaderState). Follows (captures h.1.scenario n) r) (sym reader) h.1.at.follows;
-        so = told_less h.1.scenario h.1.at.so;
-      };
-    },
-  )
+  less (Section n) bytes h =
+      let k = h.1 in (
+        h.0,
+        record {
+          scenario = k.scenario;
+          before = k.before;
+          line = k.line;
+          joined = k.joined;
+          reads_so = k.reads_so;
+          at = record { feedless = k.at.feedless; says = k.at.says; going = k.at.going; follows = k.at.follows; so = told_less k.scenario k.at.so };
+        },
+      )
   less (Nothing well) bytes h = record { ends = h.ends; body = nothing_more ∙ h.body }
 
-module _ (x y : Session) (awaits : y.awaits ≡ x.awaits) (taken_so : y.taken ≡ x.taken) (reader : y.play.reader ≡ x.play.reader) (world : y.stage.world ≡ x.stage.world) where
-  pub sound_less : IsSound x → IsSound y
-  sound_less h = record {
-    most = subst (λ (n : ℕ). n ≤ most_bytes) (sym taken_so) h.most;
-    awaiting =
-        subst (λ (a : Awaits). IsAwaiting a y.taken y.play.reader y.stage.world) (sym awaits)
-        (subst (λ (n : ℕ). IsAwaiting x.awaits n y.play.reader y.stage.world) (sym taken_so)
-        (subst (λ (r : ReaderState). IsAwaiting x.awaits x.taken r y.stage.world) (sym reader)
-        (subst (λ (w : Option World). IsAwaiting x.awaits x.taken x.play.reader w) (sym world) h.awaiting)));
-  }
-
-  pub lets_go : string_bytes y.play.text ≡ [] → (bytes given : List ℕ) → IsAt bytes given x → IsAt bytes (told_so_far bytes) y
-  lets_go none bytes given h =
-      subst (λ (g : List ℕ). IsAt bytes g y) (session_told x bytes given h) (record {
-        taken = taken_so ∙ h.taken;
-        so = subst (λ (a : Awaits). SoAt a bytes (given ++ string_bytes x.play.text) (at y.play y.stage.world)) (sym awaits) (less given (at x.play x.stage.world) (at y.play y.stage.world) reader world none x.awaits bytes h.so);
-      })
+pub lets_go : (x : Session) (t : String Global) → string_bytes t ≡ [] → (bytes given : List ℕ) → IsAt bytes given x → IsAt bytes (told_so_far bytes) (record x { text = t })
+lets_go x t none bytes given h =
+    subst (λ (g : List ℕ). IsAt bytes g (record x { text = t })) (session_told x bytes given h) (record { taken = h.taken; so = less given (state x) (string_bytes t) none x.awaits bytes h.so })
 
 -- a line
 
@@ -267,8 +251,8 @@ module _ (x : Session) (line : List ℕ) (sound : IsSound x) (wanted : IsWanted 
   pub line_steady : IsSteady x.play.reader.roster x.stage.world
   line_steady = awaiting.0
 
-  stands_at : (bytes given : List ℕ) → IsAt bytes given x → ReadsOn given (opened false) (λ more. bytes ++ more) (at x.play x.stage.world)
-  stands_at bytes given h = subst (λ (a : Awaits). SoAt a bytes given (at x.play x.stage.world)) wanted.awaits h.so
+  stands_at : (bytes given : List ℕ) → IsAt bytes given x → ReadsOn given (opened false) (λ more. bytes ++ more) (state x)
+  stands_at bytes given h = subst (λ (a : Awaits). SoAt a bytes given (state x)) wanted.awaits h.so
 
   counted : (n : ℕ) (bytes : List ℕ) → n ≡ x.taken + (length line + 1) → x.taken ≡ length bytes → n ≡ length (bytes ++ (line ++ 10 ∷ []))
   counted n bytes is taken_so = omega (arith, is, taken_so, length-append bytes (line ++ 10 ∷ []), length-append line (10 ∷ []))
@@ -278,7 +262,7 @@ module _ (x : Session) (line : List ℕ) (sound : IsSound x) (wanted : IsWanted 
     most = subst (λ (n : ℕ). n ≤ most_bytes) (sym taken_so) wanted.room
 
     takes_by : IsAwaiting y.awaits y.taken y.play.reader y.stage.world
-        → ((bytes given : List ℕ) → ReadsOn given (opened false) (λ more. bytes ++ more) (at x.play x.stage.world) → SoAt y.awaits (bytes ++ (line ++ 10 ∷ [])) given (at y.play y.stage.world)) → Takes x (line ++ 10 ∷ []) y
+        → ((bytes given : List ℕ) → ReadsOn given (opened false) (λ more. bytes ++ more) (state x) → SoAt y.awaits (bytes ++ (line ++ 10 ∷ [])) given (state y)) → Takes x (line ++ 10 ∷ []) y
     takes_by waits so = record {
       sound = record { most = most; awaiting = waits };
       at = λ bytes given h. record { taken = counted y.taken bytes taken_so h.taken; so = so bytes given (stands_at bytes given h) };
@@ -286,37 +270,37 @@ module _ (x : Session) (line : List ℕ) (sound : IsSound x) (wanted : IsWanted 
 
     -- the next one is wanted
     pub takes_line : y.awaits ≡ x.awaits → y.play.reader.lines ≤ x.play.reader.lines + 1 → IsSteady y.play.reader.roster y.stage.world
-        → ((given : List ℕ) (s : Scenario) → Stands given s (at x.play x.stage.world) → After given s line (at y.play y.stage.world) taken.On) → Takes x (line ++ 10 ∷ []) y
+        → ((given : List ℕ) (s : Scenario) → Stands given s (state x) → After given s line (state y) taken.On) → Takes x (line ++ 10 ∷ []) y
     takes_line awaits lines steady after =
         let is : y.awaits ≡ Line = awaits ∙ wanted.awaits in
         takes_by (subst (λ (a : Awaits). IsAwaiting a y.taken y.play.reader y.stage.world) (sym is) (steady, omega (arith, lines, line_few, taken_so)))
-        (λ bytes given h. subst (λ (a : Awaits). SoAt a (bytes ++ (line ++ 10 ∷ [])) given (at y.play y.stage.world)) (sym is) (line_on given bytes line (at x.play x.stage.world) (at y.play y.stage.world) h (after given h.scenario h.stands)))
+        (λ bytes given h. subst (λ (a : Awaits). SoAt a (bytes ++ (line ++ 10 ∷ [])) given (state y)) (sym is) (line_on given bytes line (state x) (state y) h (after given h.scenario h.stands)))
 
     -- its section is
     pub takes_to_section : (n : ℕ) → y.awaits ≡ Section n → 0 < n → y.play.reader.lines ≤ x.play.reader.lines + 1 → IsSteady y.play.reader.roster y.stage.world
         → (n ≤ longest_section) × IsBehindDeclarations y.play.reader.roster
-        → ((given : List ℕ) (s : Scenario) → Stands given s (at x.play x.stage.world) → After given s line (at y.play y.stage.world) (taken.Section n)) → Takes x (line ++ 10 ∷ []) y
+        → ((given : List ℕ) (s : Scenario) → Stands given s (state x) → After given s line (state y) (taken.Section n)) → Takes x (line ++ 10 ∷ []) y
     takes_to_section n is some lines steady behind after =
         takes_by (subst (λ (a : Awaits). IsAwaiting a y.taken y.play.reader y.stage.world) (sym is) (steady, omega (arith, lines, line_few, taken_so), behind.0, behind.1))
-        (λ bytes given h. subst (λ (a : Awaits). SoAt a (bytes ++ (line ++ 10 ∷ [])) given (at y.play y.stage.world)) (sym is)
-        (some, to_section given bytes line (at x.play x.stage.world) (at y.play y.stage.world) h n (after given h.scenario h.stands)))
+        (λ bytes given h. subst (λ (a : Awaits). SoAt a (bytes ++ (line ++ 10 ∷ [])) given (state y)) (sym is)
+        (some, to_section given bytes line (state x) (state y) h n (after given h.scenario h.stands)))
 
   -- a section without a byte was taken, too
-  pub takes_with_section : (w : Session) → w.taken ≡ x.taken + (length line + 1) → ((given : List ℕ) (s : Scenario) → Stands given s (at x.play x.stage.world) → After given s line (at w.play w.stage.world) (taken.Section 0))
+  pub takes_with_section : (w : Session) → w.taken ≡ x.taken + (length line + 1) → ((given : List ℕ) (s : Scenario) → Stands given s (state x) → After given s line (state w) (taken.Section 0))
       → (y : Session) → EndsSection w [] y → Takes x (line ++ 10 ∷ []) y
   takes_with_section w taken_so after y h =
       takes_by y (h.taken ∙ taken_so) h.awaiting
-      (λ bytes given k. subst (λ (b : List ℕ). SoAt y.awaits b given (at y.play y.stage.world)) (append-nil (bytes ++ (line ++ 10 ∷ [])))
-      (h.so (bytes ++ (line ++ 10 ∷ [])) given (to_section given bytes line (at x.play x.stage.world) (at w.play w.stage.world) k 0 (after given k.scenario k.stands))))
+      (λ bytes given k. subst (λ (b : List ℕ). SoAt y.awaits b given (state y)) (append-nil (bytes ++ (line ++ 10 ∷ [])))
+      (h.so (bytes ++ (line ++ 10 ∷ [])) given (to_section given bytes line (state x) (state w) k 0 (after given k.scenario k.stands))))
 
   -- it is the last one
-  pub takes_last : (w : Session) (last : Last) → w.taken ≡ x.taken + (length line + 1) → ((given : List ℕ) (s : Scenario) → Stands given s (at x.play x.stage.world) → After given s line (at w.play w.stage.world) (taken.Ends last))
+  pub takes_last : (w : Session) (last : Last) → w.taken ≡ x.taken + (length line + 1) → ((given : List ℕ) (s : Scenario) → Stands given s (state x) → After given s line (state w) (taken.Ends last))
       → (y : Session) → HasFinished w last y → Takes x (line ++ 10 ∷ []) y
   takes_last w last taken_so after y h =
       takes_by y (h.taken ∙ taken_so) (subst (λ (a : Awaits). IsAwaiting a y.taken y.play.reader y.stage.world) (sym h.awaits) tt)
-      (λ bytes given k. subst (λ (a : Awaits). SoAt a (bytes ++ (line ++ 10 ∷ [])) given (at y.play y.stage.world)) (sym h.awaits)
-      (finishes given (bytes ++ (line ++ 10 ∷ [])) w.stage.world (string_bytes w.play.text) last (at y.play y.stage.world)
-      (line_over given bytes line (at x.play x.stage.world) (at w.play w.stage.world) k w.stage.world (string_bytes w.play.text) last (after given k.scenario k.stands)) h.text))
+      (λ bytes given k. subst (λ (a : Awaits). SoAt a (bytes ++ (line ++ 10 ∷ [])) given (state y)) (sym h.awaits)
+      (finishes given (bytes ++ (line ++ 10 ∷ [])) (state w).stage (state w).text last (state y)
+      (line_over given bytes line (state x) (state w) k last (after given k.scenario k.stands)) h.text))
 
 -- a section
 
@@ -324,26 +308,26 @@ module _ (x : Session) (section : List ℕ) where
   -- the next line is wanted
   pub ends_section : (y : Session) → y.taken ≡ x.taken → y.awaits ≡ Line → y.play.reader ≡ x.play.reader → IsReady y.play.reader.roster y.stage.world
       → x.play.reader.lines ≤ x.taken → IsBehindDeclarations x.play.reader.roster
-      → ((given : List ℕ) (s : Scenario) (line : List ℕ) → AtSection given s line (length section) (at x.play x.stage.world) → AfterSection given s line section (at y.play y.stage.world) None) → EndsSection x section y
+      → ((given : List ℕ) (s : Scenario) (line : List ℕ) → AtSection given s line (length section) (state x) → AfterSection given s line section (state y) None) → EndsSection x section y
   ends_section y taken_so is reader ready lines behind after = record {
     taken = taken_so;
     awaiting = subst (λ (a : Awaits). IsAwaiting a y.taken y.play.reader y.stage.world) (sym is) (
       steady_of y.play.reader.roster y.stage.world ready (subst (λ (r : ReaderState). IsBehindDeclarations r.roster) (sym reader) behind),
       omega (arith, lines, taken_so, ap (λ (r : ReaderState). r.lines) reader),
     );
-    so = λ bytes given h. subst (λ (a : Awaits). SoAt a (bytes ++ section) given (at y.play y.stage.world)) (sym is) (section_on given bytes section (at x.play x.stage.world) (at y.play y.stage.world) h (after given h.scenario h.line h.at));
+    so = λ bytes given h. subst (λ (a : Awaits). SoAt a (bytes ++ section) given (state y)) (sym is) (section_on given bytes section (state x) (state y) h (after given h.scenario h.line h.at));
   }
 
   -- it is broken
   pub breaks_section : (w : Session) (last : Last) → w.taken ≡ x.taken
-      → ((given : List ℕ) (s : Scenario) (line : List ℕ) → AtSection given s line (length section) (at x.play x.stage.world) → AfterSection given s line section (at w.play w.stage.world) (Some last))
+      → ((given : List ℕ) (s : Scenario) (line : List ℕ) → AtSection given s line (length section) (state x) → AfterSection given s line section (state w) (Some last))
       → (y : Session) → HasFinished w last y → EndsSection x section y
   breaks_section w last taken_so after y h = record {
     taken = h.taken ∙ taken_so;
     awaiting = subst (λ (a : Awaits). IsAwaiting a y.taken y.play.reader y.stage.world) (sym h.awaits) tt;
-    so = λ bytes given k. subst (λ (a : Awaits). SoAt a (bytes ++ section) given (at y.play y.stage.world)) (sym h.awaits)
-        (finishes given (bytes ++ section) w.stage.world (string_bytes w.play.text) last (at y.play y.stage.world)
-        (section_over given bytes section (at x.play x.stage.world) (at w.play w.stage.world) k w.stage.world (string_bytes w.play.text) last (after given k.scenario k.line k.at)) h.text);
+    so = λ bytes given k. subst (λ (a : Awaits). SoAt a (bytes ++ section) given (state y)) (sym h.awaits)
+        (finishes given (bytes ++ section) (state w).stage (state w).text last (state y)
+        (section_over given bytes section (state x) (state w) k last (after given k.scenario k.line k.at)) h.text);
   }
 
 more_taken : (a : Awaits) (n k : ℕ) (r : ReaderState) (w : Option World) → IsAwaiting a n r w → n ≤ k → IsAwaiting a k r w
@@ -355,20 +339,11 @@ module _ (x : Session) (section : List ℕ) (sound : IsSound x) (wanted : IsSect
   pub section_awaiting : IsAwaiting (Section (length section)) x.taken x.play.reader x.stage.world
   section_awaiting = subst (λ (a : Awaits). IsAwaiting a x.taken x.play.reader x.stage.world) wanted.awaits sound.awaiting
 
-  pub takes_section : (y z : Session) → EndsSection x section y → z.taken ≡ y.taken + length section → z.awaits ≡ y.awaits → (at z.play z.stage.world) ≡ (at y.play y.stage.world) → Takes x section z
-  takes_section y z h taken_so awaits telling = record {
-    sound = record {
-      most = omega (arith, taken_so, h.taken, wanted.room);
-      awaiting =
-          subst (λ (a : Awaits). IsAwaiting a z.taken z.play.reader z.stage.world) (sym awaits)
-          (subst (λ (t : Played). IsAwaiting y.awaits z.taken t.reader t.world) (sym telling)
-          (more_taken y.awaits y.taken z.taken y.play.reader y.stage.world h.awaiting (omega (arith, taken_so))));
-    };
+  pub takes_section : (y : Session) → EndsSection x section y → Takes x section (record y { taken = y.taken + length section })
+  takes_section y h = record {
+    sound = record { most = omega (arith, h.taken, wanted.room); awaiting = more_taken y.awaits y.taken (y.taken + length section) y.play.reader y.stage.world h.awaiting (omega arith) };
     at = λ bytes given k. record {
-      taken = omega (arith, taken_so, h.taken, k.taken, length-append bytes section);
-      so =
-          let i = (subst (λ (a : Awaits). SoAt a bytes given (at x.play x.stage.world)) wanted.awaits k.so).1 in
-          subst (λ (a : Awaits). SoAt a (bytes ++ section) given (at z.play z.stage.world)) (sym awaits)
-          (subst (λ (t : Played). SoAt y.awaits (bytes ++ section) given t) (sym telling) (h.so bytes given i));
+      taken = omega (arith, h.taken, k.taken, length-append bytes section);
+      so = h.so bytes given (subst (λ (a : Awaits). SoAt a bytes given (state x)) wanted.awaits k.so).1;
     };
   }

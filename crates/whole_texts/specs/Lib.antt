@@ -1,3 +1,4 @@
 pub mod Texts
 pub mod Messages
+pub mod Stages
 pub mod Sessions

@@ -17,7 +17,8 @@ use Rattle.whole_texts.specs.declared.session.Awaits.TheVariants.{Line, Section,
 use Rattle.whole_texts.specs.declared.session.Session.{Session}
 use Rattle.whole_texts.specs.declared.session.SessionFault.{SessionFault}
 use Rattle.whole_texts.specs.declared.session.SessionFault.TheVariants as faults
-use Rattle.scenario_play.specs.Playing.{AtSection, IsSteady, Played, ReadsOn, at, last_line}
+use Rattle.scenario_play.specs.Playing.{AtSection, IsSteady, Played, ReadsOn, last_line, played}
+use Rattle.whole_texts.specs.Stages.{lone}
 use Rattle.whole_texts.specs.Texts.{ends_well}
 
 -- what is told
@@ -70,10 +71,13 @@ SoAt Line bytes given x = ReadsOn given (opened false) (λ more. bytes ++ more) 
 SoAt (Section n) bytes given x = (0 < n) × InSection bytes given n x
 SoAt (Nothing well) bytes given x = IsOut bytes given well x
 
+abbrev pub state : Session → Played
+state x = played x.play (lone x.stage.world) (string_bytes x.text)
+
 -- The session has taken these bytes, and of what is told of them it has let go what was given.
 pub record IsAt (bytes given : List ℕ) (x : Session) : Type 0 where
   pub taken : x.taken ≡ length bytes
-  pub so : SoAt x.awaits bytes given (at x.play x.stage.world)
+  pub so : SoAt x.awaits bytes given (state x)
 
 -- what holds of each session
 
@@ -142,10 +146,10 @@ Admits wanted refuses (Err fault) = refuses fault
 pub record HasFinished (old : Session) (last : Last) (new : Session) : Type 0 where
   pub taken : new.taken ≡ old.taken
   pub awaits : new.awaits ≡ Nothing (ends_well (ending_of last))
-  pub text : string_bytes new.play.text ≡ string_bytes old.play.text ++ last_line last old.stage.world
+  pub text : string_bytes new.text ≡ string_bytes old.text ++ last_line last old.stage.world
 
 -- the section of the line before was taken, but isn't counted
 pub record EndsSection (old : Session) (section : List ℕ) (new : Session) : Type 0 where
   pub taken : new.taken ≡ old.taken
   pub awaiting : IsAwaiting new.awaits new.taken new.play.reader new.stage.world
-  pub so : (bytes given : List ℕ) → InSection bytes given (length section) (at old.play old.stage.world) → SoAt new.awaits (bytes ++ section) given (at new.play new.stage.world)
+  pub so : (bytes given : List ℕ) → InSection bytes given (length section) (state old) → SoAt new.awaits (bytes ++ section) given (state new)

@@ -27,7 +27,9 @@ impl Lone {
 }
 
 impl Stage for Lone {
-    ghost world = { λ s. s.world };
+    ghost use Rattle.whole_texts.specs.Stages.{lone};
+
+    ghost stands = { λ s. lone s.world };
 
     fn has_begun(&self) -> bool {
         self.world.is_some()

@@ -1,5 +1,5 @@
 //! The transcript of a scenario.
-ghost use Rattle.std.specs.Prelude.{◌≡◌, ◌≤◌, IfOk, length};
+ghost use Rattle.std.specs.Prelude.{◌≡◌, ◌≤◌, ◌∷◌, ◌++◌, [], IfOk, codes, length, string_bytes};
 ghost use Rattle.br_model.specs.Table.Limits.{most_bytes};
 ghost use Rattle.scenario_reader.specs.Reading.{ending_of};
 ghost use Rattle.whole_texts.specs.Texts.{TellsWhole, ends_well};
@@ -27,6 +27,15 @@ pub(crate) fn is_well(last: Last) -> bool
     }
 }
 
+/// A text that begins a transcript.
+pub(crate) fn first_text(alloc: Global) -> Result<String, NoMemory>
+    ensures { IfOk result (λ text. string_bytes text ≡ codes "transcript 1" ++ 10 ∷ []) }
+{
+    let mut text = String::new(alloc);
+    text.push_str("transcript 1\n")?;
+    Ok(text)
+}
+
 /// The transcript of a scenario, up to its end or its first bad line.
 ///
 /// # Errors
@@ -37,11 +46,12 @@ pub fn replay(alloc: Global, scenario: &[u8]) -> Result<Told, NoMemory>
     ensures { IfOk result (TellsWhole scenario.now) }
 {
     let mut stage = Lone::new();
-    let mut play = Play::make(alloc)?;
-    let last = play.read(&mut stage, alloc, scenario)?;
-    play.append_last(&stage, last)?;
+    let mut play = Play::make(alloc, false)?;
+    let mut text = first_text(alloc)?;
+    let last = play.read(&mut stage, alloc, scenario, &mut text)?;
+    play.append_last(&stage, last, &mut text)?;
     Ok(Told {
-        text: play.into_text(),
+        text,
         well: is_well(last),
     })
 }

@@ -9,7 +9,7 @@ ghost use Rattle.scenario_play.specs.Playing.{IsSteady};
 
 use crate::NoMemory;
 use crate::lone::Lone;
-use crate::replaying::is_well;
+use crate::replaying::{first_text, is_well};
 use br_model::limits::MOST_BYTES;
 use scenario_play::{Play, Taken, first_line};
 use scenario_reader::Last;
@@ -44,6 +44,8 @@ pub enum SessionFault {
 pub struct Session {
     play: Play,
     stage: Lone,
+    // What isn't let go.
+    text: String,
     awaits: Awaits,
     taken: usize,
 }
@@ -59,8 +61,9 @@ impl Session {
         ensures at { IfOk result (IsAt [] []) }
     {
         Ok(Session {
-            play: Play::make(alloc)?,
+            play: Play::make(alloc, false)?,
             stage: Lone::new(),
+            text: first_text(alloc)?,
             awaits: Awaits::Line,
             taken: 0,
         })
@@ -111,7 +114,7 @@ impl Session {
         requires { IfSome self.old.stage.world IsWorld }
         ensures { OnOk result (HasFinished self.old last self.new) }
     {
-        self.play.append_last(&self.stage, last)?;
+        self.play.append_last(&self.stage, last, &mut self.text)?;
         self.awaits = Awaits::Nothing {
             well: is_well(last),
         };
@@ -126,7 +129,7 @@ impl Session {
         requires behind { IsBehindDeclarations self.old.play.reader.roster }
         ensures { OnOk result (EndsSection self.old section.now self.new) }
     {
-        match self.play.take_section(&mut self.stage, alloc, section)? {
+        match self.play.take_section(&mut self.stage, alloc, section, &mut self.text)? {
             None => {
                 self.awaits = Awaits::Line;
                 Ok(())
@@ -141,7 +144,7 @@ impl Session {
         requires wanted { IsWanted self.old line.now }
         ensures { OnOk result (Takes self.old (line.now ++ 10 ∷ []) self.new) }
     {
-        let taken = self.play.take(&mut self.stage, alloc, line)?;
+        let taken = self.play.take(&mut self.stage, alloc, line, &mut self.text)?;
         self.taken += line.len() + 1;
         match taken {
             Taken::On => Ok(()),
@@ -195,7 +198,7 @@ impl Session {
     pub fn told(&self) -> &[u8]
         ensures { (bytes given : List ℕ) → IsAt bytes given self.now → given ++ result.now ≡ told_so_far bytes }
     {
-        self.play.text()
+        self.text.as_bytes()
     }
 
     /// Lets go what is told.
@@ -205,7 +208,7 @@ impl Session {
         ensures awaits { self.new.awaits ≡ self.old.awaits }
         ensures at { (bytes given : List ℕ) → IsAt bytes given self.old → IsAt bytes (told_so_far bytes) self.new }
     {
-        self.play.let_go();
+        self.text.clear();
     }
 
     /// Whether the scenario has ended, and by its line `end`.

@@ -25,7 +25,7 @@ end_section-requires-clause-behind c = (section_awaiting c.args.self.now c.args.
 
 pub returns-in-Ok : goal.returns-in-Ok
 returns-in-Ok c =
-    let wanted = c.in_ok-admit_section.ensures in (wanted, takes_section c.args.self.now c.args.section.now c.requires wanted c.end_section.new.self _ c.in-Ok.ensures refl refl refl)
+    let wanted = c.in_ok-admit_section.ensures in (wanted, takes_section c.args.self.now c.args.section.now c.requires wanted c.end_section.new.self c.in-Ok.ensures)
 
 pub returns-in-Err : goal.returns-in-Err
 returns-in-Err c = (tt, ap end_of c.in_ok-admit_section.ensures.awaits)

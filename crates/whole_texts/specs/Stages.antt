@@ -1,0 +1,11 @@
+-- A world on the heap alone as a stage.
+use Rattle.std.specs.Prelude.{ℕ, true, List, []}
+use Rattle.std.specs.declared.option.Option.{Option}
+use Rattle.br_model.specs.declared.steps.Step.{Step}
+use Rattle.br_model.specs.Plane.World.{World}
+use Rattle.br_model.specs.Table.Setup.{Setup}
+use Rattle.scenario_play.specs.Stages.{Standing}
+
+-- nobody speaks of the run
+abbrev pub lone : Option World → Standing
+lone w = record { world = w; checks = true; sound = Unit {0}; also = λ setup steps. Unit {0}; says = λ setup steps. [] }
