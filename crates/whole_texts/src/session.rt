@@ -129,7 +129,10 @@ impl Session {
         requires behind { IsBehindDeclarations self.old.play.reader.roster }
         ensures { OnOk result (EndsSection self.old section.now self.new) }
     {
-        match self.play.take_section(&mut self.stage, alloc, section, &mut self.text)? {
+        match self
+            .play
+            .take_section(&mut self.stage, alloc, section, &mut self.text)?
+        {
             None => {
                 self.awaits = Awaits::Line;
                 Ok(())
@@ -144,7 +147,9 @@ impl Session {
         requires wanted { IsWanted self.old line.now }
         ensures { OnOk result (Takes self.old (line.now ++ 10 ∷ []) self.new) }
     {
-        let taken = self.play.take(&mut self.stage, alloc, line, &mut self.text)?;
+        let taken = self
+            .play
+            .take(&mut self.stage, alloc, line, &mut self.text)?;
         self.taken += line.len() + 1;
         match taken {
             Taken::On => Ok(()),
