@@ -55,13 +55,18 @@ module _ (given : List ℕ) (s : Scenario) (x : Played) (h : Stands given s x) w
   pub line_too_long : (line : List ℕ) (last : Last) → is_line line ≡ true → longest_line < length line → last ≡ lasts.Bad (x.reader.lines + 1) Long
       → EndsIn given s (λ more. line ++ more) x last
   line_too_long line last feed long is =
-      record { scenario = bad s Long; reads_so = λ more. read_long s line more h.follows.going feed long; over = bad_over given s Long x.stage x.text last (too_long last is) h.so }
+      record {
+        scenario = bad s Long;
+        reads_so = λ more. read_long s line more h.follows.going feed long;
+        ports = ap (λ (r : Roster). r.ports) h.follows.roster;
+        over = bad_over given s Long x.stage x.text last (too_long last is) h.so;
+      }
 
   -- with what is behind it
   pub whole_line_too_long : (line : List ℕ) (last : Last) → is_line line ≡ true → longest_line < length line → last ≡ lasts.Bad (x.reader.lines + 1) Long
       → EndsIn given s (λ more. line ++ 10 ∷ more) x last
   whole_line_too_long line last feed long is =
-      let k = line_too_long line last feed long is in record { scenario = k.scenario; reads_so = λ more. k.reads_so (10 ∷ more); over = k.over }
+      let k = line_too_long line last feed long is in record { scenario = k.scenario; reads_so = λ more. k.reads_so (10 ∷ more); ports = k.ports; over = k.over }
 
   -- where the bytes end
   pub rest_too_long : (rest : List ℕ) (last : Last) → is_line rest ≡ true → longest_line < length rest → last ≡ lasts.Bad (x.reader.lines + 1) Long
@@ -95,22 +100,25 @@ took_of x = took (some_scenario x) x (record { lines = refl; roster = refl; goin
 
 module _ (given : List ℕ) (s : Scenario) (line : List ℕ) (going : s.ending ≡ Going) (feed : is_line line ≡ true) where
   module _ (x : Played) (h : IsTold given s x.stage x.text) where
-    ends_by : (r : Result Said LineWhy) (last : Last) → whole_says s.roster line ≡ r → EndsBy s r last → EndsIn given s (λ more. line ++ 10 ∷ more) x last
-    ends_by (Err why) last says is = record {
+    ends_by : (r : Result Said LineWhy) (last : Last) → x.reader.roster.ports ≡ s.roster.ports → whole_says s.roster line ≡ r → EndsBy s r last
+        → EndsIn given s (λ more. line ++ 10 ∷ more) x last
+    ends_by (Err why) last ports says is = record {
       scenario = bad s why;
       reads_so = λ more. ap (λ (p : Progress). p.scenario) (read_bad s why line more going feed says);
+      ports = ports;
       over = bad_over given s why x.stage x.text last is h;
     }
-    ends_by (Ok what) last says is =
+    ends_by (Ok what) last ports says is =
         let t : Scenario = takes s said.Ends [] in
         let so : whole_says s.roster line ≡ Ok said.Ends = says ∙ ap Ok is.0 in record {
           scenario = t;
           reads_so = λ more. ap (λ (p : Progress). p.scenario) (read_line s said.Ends line [] more going feed so refl ∙ read_ended t more refl);
+          ports = ports;
           over = record { ends = ap ending_of (sym is.1); so = moved given s t x.stage x.text (append-nil s.steps) (kept s.roster) h };
         }
 
-    pub line_ends : (y : ReaderState) (last : Last) → Took s line y (nexts.End last) → EndsIn given s (λ more. line ++ 10 ∷ more) x last
-    line_ends y last t = ends_by (whole_says s.roster line) last refl t.0
+    pub line_ends : (last : Last) → Took s line x.reader (nexts.End last) → EndsIn given s (λ more. line ++ 10 ∷ more) x last
+    line_ends last t = ends_by (whole_says s.roster line) last (ap (λ (r : Roster). r.ports) t.1) refl t.0
 
     -- after which nothing is to be done
     pub goes_quietly : Took s line x.reader nexts.Line → ReadsOn given s (λ more. line ++ 10 ∷ more) x
@@ -196,6 +204,7 @@ module _ (given : List ℕ) (s : Scenario) (line : List ℕ) (n : ℕ) (x : Play
     section_broken why last gives is = record {
       scenario = bad s why;
       reads_so = λ more. ap (λ (p : Progress). p.scenario) (reads_it (Err why) gives more ∙ read_ended (bad s why) more refl);
+      ports = ap (λ (r : Roster). r.ports) h.follows.roster;
       over = bad_over given s why x.stage x.text last (numbered why last is) h.so;
     }
 

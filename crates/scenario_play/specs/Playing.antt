@@ -138,6 +138,7 @@ pub record ReadsOn (given : List ℕ) (s : Scenario) (front : List ℕ → List 
 pub record EndsIn (given : List ℕ) (s : Scenario) (front : List ℕ → List ℕ) (x : Played) (last : Last) : Type 0 where
   pub scenario : Scenario
   pub reads_so : (more : List ℕ) → reads s (front more) ≡ scenario
+  pub ports : x.reader.roster.ports ≡ scenario.roster.ports
   pub over : IsOver given scenario x.stage x.text last
 
 -- A whole line was taken: nothing more is to be done, its section is next, or the scenario ends so.

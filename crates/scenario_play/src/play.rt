@@ -63,7 +63,9 @@ fn begin<W: Stage>(stage: &mut W, alloc: Global, roster: &Roster) -> Result<(), 
     if stage.has_begun() {
         return Ok(());
     }
-    stage.begin(alloc, roster.domains(), roster.own())
+    // law: what is declared fits beside each other
+    roster.len();
+    stage.begin(alloc, roster)
 }
 
 /// Does a step. Its lines are added.

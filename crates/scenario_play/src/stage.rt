@@ -1,15 +1,15 @@
 //! What a scenario is played on.
 ghost use Rattle.std.specs.Prelude.{◌≡◌, [], IfSome, None, OnOk};
 ghost use Rattle.std.specs.Option.{is_some};
+ghost use Rattle.br_model.specs.Program.Runs.{setup_of};
 ghost use Rattle.br_model.specs.Theorems.Invariants.{IsWorld};
 ghost use Rattle.plane_parts.specs.Added.{Added};
 ghost use Rattle.scenario_play.specs.Stages.{Begins, CanStep, Standing, StepsTo, end_line_of};
 
 use crate::NoMemory;
-use br_model::domains::Domains;
-use br_model::numbers::Mac;
 use br_model::steps::Step;
 use br_model::transcript::Line;
+use bridge_command::Roster;
 use std::alloc::Global;
 use transcript_lines::Lines;
 
@@ -23,10 +23,10 @@ pub trait Stage {
         ensures { result ≡ is_some (stands self.now).world };
 
     /// Makes the world of a bridge in which nothing has happened.
-    fn begin(&mut self, alloc: Global, domains: Domains, own: Mac) -> Result<(), NoMemory>
+    fn begin(&mut self, alloc: Global, roster: &Roster) -> Result<(), NoMemory>
         requires first { (stands self.old).world ≡ None }
         requires sound { (stands self.old).sound }
-        ensures { OnOk result (Begins (stands self.old) (record { domains = domains; own = own }) (stands self.new)) };
+        ensures { OnOk result (Begins (stands self.old) (setup_of roster.now) (stands self.new)) };
 
     /// Does a step. Its lines are added.
     fn step(&mut self, alloc: Global, step: Step, lines: &mut Lines) -> Result<(), NoMemory>

@@ -3,10 +3,9 @@ ghost use Rattle.std.specs.Prelude.{◌≡◌, None};
 
 use crate::NoMemory;
 use crate::heap_world::HeapWorld;
-use br_model::domains::Domains;
-use br_model::numbers::Mac;
 use br_model::steps::Step;
 use br_model::transcript::Line;
+use bridge_command::Roster;
 use scenario_play::Stage;
 use std::alloc::Global;
 use transcript_lines::Lines;
@@ -35,8 +34,8 @@ impl Stage for Lone {
         self.world.is_some()
     }
 
-    fn begin(&mut self, alloc: Global, domains: Domains, own: Mac) -> Result<(), NoMemory> {
-        self.world = Some(HeapWorld::make(alloc, domains, own)?);
+    fn begin(&mut self, alloc: Global, roster: &Roster) -> Result<(), NoMemory> {
+        self.world = Some(HeapWorld::make(alloc, roster.domains(), roster.own())?);
         Ok(())
     }
 

@@ -92,4 +92,4 @@ returns-in-End-clause-fits g c =
 pub returns-in-End-clause-after : goal.returns-in-End-clause-after
 returns-in-End-clause-after g c = λ given s h.
     let said = took s _ h.follows _ _ _ _ c.in_ok-take.ensures.takes c.in-End.is in
-    line_ends given s _ h.follows.going c.requires.feedless _ h.so c.take.new.self c.in-End.last said
+    line_ends given s _ h.follows.going c.requires.feedless _ h.so c.in-End.last said
