@@ -9,7 +9,7 @@ pub read-requires-clause-first : goal.read-requires-clause-first
 read-requires-clause-first c = begins false _ c.in_ok-play.ensures c.new-stage.ensures c.in_ok-text.ensures
 
 pub read-requires-clause-fits : goal.read-requires-clause-fits
-read-requires-clause-fits c = fits_lone _ _
+read-requires-clause-fits c = fits_lone _
 
 pub append_last-requires : goal.append_last-requires
 append_last-requires c = stands_by (scenario c.args.scenario.now).roster c.read.new.stage.world c.in_ok-last.ensures.so.ready

@@ -13,7 +13,7 @@ pub take_section-requires-clause-ready : goal.take_section-requires-clause-ready
 take_section-requires-clause-ready c = ready_of c.args.self.now.play.reader.roster _ c.requires.steady
 
 pub take_section-requires-clause-fits : goal.take_section-requires-clause-fits
-take_section-requires-clause-fits c = fits_lone _ _
+take_section-requires-clause-fits c = fits_lone _
 
 pub returns-in-None : goal.returns-in-None
 returns-in-None c =

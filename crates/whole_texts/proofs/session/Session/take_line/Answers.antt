@@ -20,7 +20,7 @@ pub take-requires-clause-steady : goal.take-requires-clause-steady
 take-requires-clause-steady c = line_steady c.args.self.now c.args.line.now c.requires.sound c.requires.wanted
 
 pub take-requires-clause-fits : goal.take-requires-clause-fits
-take-requires-clause-fits c = fits_lone _ _
+take-requires-clause-fits c = fits_lone _
 
 pub returns-in-On : goal.returns-in-On
 returns-in-On c =
