@@ -200,8 +200,8 @@ begun_one r old new setup is declared none fits b =
       fits = fits_kept r old new b.keeps b.sound fits;
       keeps = b.keeps;
       also = λ s ran same h.
-        subst (λ (l : List Step). new.also (setup_of s.roster) l) (sym (subst (λ (o : Option World). HasRun s o) none ran))
-        (subst (λ (u : Setup). new.also u []) (is ∙ same) b.also);
+          subst (λ (l : List Step). new.also (setup_of s.roster) l) (sym (subst (λ (o : Option World). HasRun s o) none ran))
+          (subst (λ (u : Setup). new.also u []) (is ∙ same) b.also);
     }
 
 -- a world was made
@@ -233,7 +233,7 @@ done_one r old mid new step lines b t =
       world = done.0;
       lines = done.1;
       also = λ s ran same h.
-        t.also (setup_of s.roster) s.steps (b.world ∙ ap Some (world_same r s.roster old.world same ∙ world_before s old.world ran)) (b.also s ran same h);
+          t.also (setup_of s.roster) s.steps (b.world ∙ ap Some (world_same r s.roster old.world same ∙ world_before s old.world ran)) (b.also s ran same h);
     }
 
 -- a step was done, its lines alone are told
