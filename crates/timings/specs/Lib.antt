@@ -14,3 +14,4 @@ pub mod ExplainText
 pub mod Telling
 pub mod Refuted
 pub mod Worked
+pub mod InputLines
