@@ -1,7 +1,6 @@
 -- How many updates chips have applied: a turn counts one that waits, and nothing else does.
-use Rattle.std.proofs.Common.{◌≡◌, ℕ, zero, suc, ◌+◌, ◌-◌, ◌≤◌, ◌<◌, min, true, false, cond, Bool, List, [], ◌∷◌, ◌++◌, map, length, Option, None, Some, refl, sym, ap, ◌∙◌, subst, arith, option_map}
-use Rattle.std.proofs.lemmas.Bool.{eqb-true, eq-eqb, true≢false}
-use Rattle.std.proofs.lemmas.List.Elements.{All-nil}
+use Rattle.std.proofs.Common.{◌≡◌, ℕ, zero, suc, ◌+◌, ◌≤◌, ◌<◌, min, true, false, List, [], ◌∷◌, ◌++◌, length, Option, None, Some, refl, sym, ap, ◌∙◌, subst, arith, option_map}
+use Rattle.std.proofs.lemmas.Bool.{eqb-true, true≢false}
 use Rattle.std.proofs.lemmas.Option.{slice_get_within}
 use Rattle.std.specs.Prelude.{◌==◌, is_some, slice_get}
 use Rattle.std.specs.List.{AllByRecursion, list_any}
@@ -12,11 +11,11 @@ use Rattle.br_model.specs.declared.change.Change.{Change}
 use Rattle.br_model.specs.declared.steps.Event.TheVariants as events
 use Rattle.br_model.specs.declared.steps.Refusal.{Refusal}
 use Rattle.br_model.specs.declared.steps.Step.{Step}
-use Rattle.br_model.specs.declared.steps.Step.TheVariants.{Rx, Cmd, Now, Serve, Turn, Publish}
+use Rattle.br_model.specs.declared.steps.Step.TheVariants.{Turn, Publish}
 use Rattle.br_model.specs.Control.Reaction.{Reaction}
-use Rattle.br_model.specs.Plane.Chip.{Chip, applies, chip_in}
+use Rattle.br_model.specs.Plane.Chip.{Chip, applies}
 use Rattle.br_model.specs.Plane.ChipSteps.{turns, turns_to}
-use Rattle.br_model.specs.Plane.Runs.{pending_of, then_step}
+use Rattle.br_model.specs.Plane.Runs.{then_step}
 use Rattle.br_model.specs.Plane.Steps.{world_step}
 use Rattle.br_model.specs.Plane.Traits.{traits}
 use Rattle.br_model.specs.Plane.World.{World, Waiting, Stepped, answered, chip_at, next_of, reacts}
@@ -29,7 +28,7 @@ use Rattle.br_model.proofs.Plane.Chips.{CountsStay, chip-dom, chip-there, counts
 use Rattle.br_model.proofs.Plane.Kept.{answers-counts, chip-stands, enters-counts, hit_by-keeps, step-world}
 use Rattle.br_model.proofs.Plane.StepEnds.{Ends, does-ends, ends_answered, ends_applied, ends_entered, ends_held, ends_idle, ends_published, ends_refused, ends_sent, ends_unread}
 use Rattle.br_model.proofs.Plane.Stays.{step-stays}
-use Rattle.timings.specs.Explained.{count_at, has_update, updates_in}
+use Rattle.timings.specs.Explained.{count_at, updates_in}
 use Rattle.timings.specs.Greedy.{repeated}
 use Rattle.timings.specs.Timings.{Alike, Seen, Commands, Comes, Enters, linux_steps, plays, played, serving, step_of, turned}
 use Rattle.timings.proofs.Playing.{alike-then}

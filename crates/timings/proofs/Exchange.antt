@@ -1,6 +1,6 @@
 -- The fewest turns beside those of any timing: no chip has applied more.
-use Rattle.std.proofs.Common.{◌≡◌, ℕ, zero, suc, ◌+◌, ◌-◌, ◌≤◌, ◌<◌, min, true, false, cond, Bool, ◌&&◌, List, [], ◌∷◌, map, take, Option, None, Some, refl, sym, ap, ◌∙◌, subst, arith, option_map, ◌⊎◌, inl, inr, ⊎_elim}
-use Rattle.std.proofs.lemmas.Bool.{and_parts, cases_lt, eqb-true, le-leb, leb-true, true≢false}
+use Rattle.std.proofs.Common.{◌≡◌, ℕ, zero, suc, ◌+◌, ◌-◌, ◌≤◌, ◌<◌, min, true, false, cond, ◌&&◌, List, [], ◌∷◌, take, Option, None, Some, refl, sym, ap, ◌∙◌, subst, arith, option_map, ◌⊎◌, inl, inr, ⊎_elim}
+use Rattle.std.proofs.lemmas.Bool.{and_parts, cases_lt, eqb-true, leb-true, true≢false}
 use Rattle.std.specs.Prelude.{◌==◌, is_some, nat_le}
 use Rattle.std.specs.List.{fold}
 use Rattle.std.specs.Option.{option_map_or}
@@ -13,14 +13,13 @@ use Rattle.br_model.specs.Table.Domains.{domain_of}
 use Rattle.br_model.specs.Table.Setup.{Setup}
 use Rattle.br_model.specs.Theorems.Invariants.{IsWorld}
 use Rattle.br_model.proofs.Plane.Chips.{chip-dom, chip_of-at}
-use Rattle.br_model.proofs.Plane.Kept.{chip-stands}
 use Rattle.timings.specs.Explained.{IsFit, Mark, Sees, Applied, Sights, Timing, comes_to, count_at, frame_sent, goes, keeps, observed, stands_from, turns_stand, updates_in}
 use Rattle.timings.specs.Greedy.{Answer, Yes, No, explains_from, fits_after, least_from, repeated, turns_ahead, turns_bound, turns_for, with_ahead}
-use Rattle.timings.specs.Timings.{Alike, Seen, Commands, Comes, Enters, plays, turned}
-use Rattle.timings.proofs.Counting.{count-most, plays-counts, repeated-other, repeated-own, some-of, there-alike, there-count, turned-alike, turned-grows, turned-updates, alike-updates, turned-world}
+use Rattle.timings.specs.Timings.{Alike, Commands, Comes, Enters, plays, turned}
+use Rattle.timings.proofs.Counting.{count-most, plays-counts, repeated-other, repeated-own, some-of, there-alike, there-count, turned-alike, turned-grows, alike-updates, turned-world}
 use Rattle.timings.proofs.Least.{least-found, least-least}
 use Rattle.timings.proofs.Lines.{SameCounts, own-count}
-use Rattle.timings.proofs.Own.{Between, comes-between, fold-later, goes-between, goes-later, goes-next, next_after, plays-own, turned-between, turned-next}
+use Rattle.timings.proofs.Own.{Between, comes-between, fold-later, goes-later, goes-next, next_after, plays-own, turned-between, turned-next}
 use Rattle.timings.proofs.Playing.{alike-sym, alike-then}
 use Rattle.timings.proofs.Same.{is-fits}
 use Rattle.timings.proofs.Timing.{plays-beside}

@@ -1,16 +1,16 @@
 -- The laws of `explain`.
-use Rattle.std.proofs.Common.{◌≡◌, ℕ, ◌+◌, ◌≤◌, ◌<◌, true, false, cond, List, [], ◌∷◌, ◌++◌, map, take, Option, None, Some, refl, sym, ap, ◌∙◌, subst, arith, append-nil}
+use Rattle.std.proofs.Common.{◌≡◌, ℕ, ◌+◌, ◌≤◌, true, false, cond, List, [], ◌∷◌, ◌++◌, map, take, Option, None, Some, refl, sym, ap, ◌∙◌, subst, arith}
 use Rattle.std.proofs.lemmas.List.{map-append}
 use Rattle.std.proofs.lemmas.List.Elements.{filter-append}
 use Rattle.std.specs.Prelude.{◌==◌}
-use Rattle.std.specs.List.{filter, fold, flat_map}
+use Rattle.std.specs.List.{filter, fold}
 use Rattle.std.specs.Option.{option_map_or}
 use Rattle.br_model.specs.declared.transcript.Line.{Line}
 use Rattle.br_model.specs.Plane.LineTraits.{sends}
-use Rattle.br_model.specs.Plane.Sending.{Sent, sent_by, sent_of}
+use Rattle.br_model.specs.Plane.Sending.{sent_of}
 use Rattle.br_model.specs.Plane.World.{Stepped, first_world}
 use Rattle.br_model.specs.Table.Setup.{Setup}
-use Rattle.timings.specs.Explained.{Explains, IsFit, IsTiming, Mark, Sights, Timing, count_at, frame_sent, goes, observed, seen_of_frame, stands_from, timing, watched}
+use Rattle.timings.specs.Explained.{Explains, IsFit, IsTiming, Mark, Sights, Timing, count_at, frame_sent, goes, timing, watched}
 use Rattle.timings.specs.Greedy.{Answer, Yes, No, explain, explains_from}
 use Rattle.timings.specs.Refuted.{IsRefuted}
 use Rattle.timings.specs.Timings.{Enters, plays, turned}

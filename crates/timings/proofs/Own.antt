@@ -1,5 +1,5 @@
 -- What is sent of a frame is sent when it enters: nothing before, and nothing after.
-use Rattle.std.proofs.Common.{◌≡◌, ℕ, suc, ◌+◌, ◌≤◌, ◌<◌, List, [], ◌∷◌, ◌++◌, map, Option, None, Some, refl, sym, ap, ◌∙◌, arith, subst, append_assoc}
+use Rattle.std.proofs.Common.{◌≡◌, ℕ, ◌+◌, ◌≤◌, ◌<◌, List, [], ◌∷◌, ◌++◌, map, Option, None, Some, refl, sym, ap, ◌∙◌, arith, append_assoc}
 use Rattle.std.proofs.lemmas.List.{append-nil}
 use Rattle.std.specs.List.{fold}
 use Rattle.std.specs.declared.result.Result.{Result}
@@ -9,7 +9,7 @@ use Rattle.br_model.specs.declared.frame.Head.{Head}
 use Rattle.br_model.specs.declared.steps.Event.TheVariants as events
 use Rattle.br_model.specs.declared.steps.Refusal.{Refusal}
 use Rattle.br_model.specs.declared.steps.Step.{Step}
-use Rattle.br_model.specs.declared.steps.Step.TheVariants.{Rx, Serve, Turn, Publish}
+use Rattle.br_model.specs.declared.steps.Step.TheVariants.{Serve, Turn, Publish}
 use Rattle.br_model.specs.declared.transcript.Line.{Line}
 use Rattle.br_model.specs.Control.Reaction.{Reaction}
 use Rattle.br_model.specs.Plane.Chip.{Chip, notes}
@@ -30,7 +30,7 @@ use Rattle.timings.specs.Explained.{Mark, Sees, Applied, Timing, comes_to, frame
 use Rattle.timings.specs.Timings.{Seen, Commands, Comes, Enters, linux_steps, plays, played, serving, step_of, turned}
 use Rattle.timings.proofs.Counting.{turned-alike}
 use Rattle.timings.proofs.Lines.{sent-append}
-use Rattle.timings.proofs.Timing.{Calm, Ready, plays-ready, turned-ready}
+use Rattle.timings.proofs.Timing.{Ready, plays-ready, turned-ready}
 
 -- Of a frame that is gone.
 

@@ -1,6 +1,6 @@
 -- The fewest turns are a timing, and explain what they are asked to.
-use Rattle.std.proofs.Common.{◌≡◌, ℕ, zero, suc, ◌+◌, ◌-◌, ◌≤◌, ◌<◌, min, true, false, cond, Bool, not, ◌&&◌, List, [], ◌∷◌, ◌++◌, map, Option, None, Some, refl, sym, ap, ◌∙◌, subst, arith, ⊎_elim}
-use Rattle.std.proofs.lemmas.Bool.{and_parts, cases_lt, le-leb, ne_eqb, true≢false}
+use Rattle.std.proofs.Common.{◌≡◌, ℕ, zero, suc, ◌+◌, ◌-◌, ◌≤◌, ◌<◌, min, true, false, cond, Bool, not, ◌&&◌, List, [], ◌∷◌, ◌++◌, Option, None, Some, refl, sym, ap, ◌∙◌, subst, arith, ⊎_elim}
+use Rattle.std.proofs.lemmas.Bool.{cases_lt, le-leb, ne_eqb}
 use Rattle.std.proofs.lemmas.Option.{same_Some}
 use Rattle.std.specs.Prelude.{◌==◌, is_some, nat_le}
 use Rattle.std.specs.List.{fold}
@@ -10,7 +10,7 @@ use Rattle.br_model.specs.Plane.Chip.{Chip}
 use Rattle.br_model.specs.Plane.Entering.{chip_of}
 use Rattle.br_model.specs.Plane.Runs.{pending_of, then_step}
 use Rattle.br_model.specs.Plane.Sending.{sent_of}
-use Rattle.br_model.specs.Plane.World.{World, Stepped, chip_at}
+use Rattle.br_model.specs.Plane.World.{Stepped, chip_at}
 use Rattle.br_model.specs.Table.Domains.{domain_of}
 use Rattle.br_model.specs.Theorems.Invariants.{IsWorld}
 use Rattle.br_model.proofs.Plane.Chips.{chip-dom, chip_of-at}
@@ -21,7 +21,7 @@ use Rattle.timings.specs.Timings.{Commands, Comes, Enters, plays, turned}
 use Rattle.timings.proofs.Counting.{alike-updates, repeated-own, some-of, there-alike, there-count, turn-own, turned-alike, turned-updates, turned-world}
 use Rattle.timings.proofs.Exchange.{AllFit, FitsBelow, after-sent}
 use Rattle.timings.proofs.Least.{least-passes, least-within}
-use Rattle.timings.proofs.Own.{Between, fold-later, fold-own, goes-between, goes-later, goes-next, turned-next}
+use Rattle.timings.proofs.Own.{Between, fold-own, goes-between, goes-later, goes-next, turned-next}
 use Rattle.timings.proofs.Same.{fits-is}
 use Rattle.timings.proofs.Turning.{turn-alike}
 

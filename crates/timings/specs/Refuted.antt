@@ -1,7 +1,6 @@
 -- What a `no` says of the frames before the one that no timing explains.
 -- Source: this profile.
-use Rattle.std.specs.Prelude.{◌≡◌, ℕ, ◌≤◌, true, false, List, ◌∷◌, ◌++◌, [], map}
-use Rattle.std.specs.declared.option.Option.{Option}
+use Rattle.std.specs.Prelude.{◌≡◌, ℕ, true, List, ◌∷◌, ◌++◌, []}
 use Rattle.std.specs.declared.option.Option.TheVariants.{None}
 use Rattle.br_model.specs.Plane.World.{Stepped, first_world}
 use Rattle.br_model.specs.Table.Setup.{Setup}
