@@ -12,3 +12,5 @@ pub mod Exchange
 pub mod Sound
 pub mod Explaining
 pub mod Worked
+pub mod Rows
+pub mod Meanwhile

@@ -15,3 +15,4 @@ pub mod Telling
 pub mod Refuted
 pub mod Worked
 pub mod InputLines
+pub mod Meanwhile
