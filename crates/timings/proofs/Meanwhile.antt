@@ -1,9 +1,9 @@
 -- Turns and publications behind a run, and what a frame does that enters then.
-use Rattle.std.proofs.Common.{◌≡◌, ℕ, ◌+◌, ◌-◌, ◌≤◌, true, false, cond, Bool, ◌&&◌, List, [], ◌∷◌, ◌++◌, map, length, take, Option, None, Some, refl, sym, ap, ◌∙◌, subst, arith, append-nil, ◌⊎◌, inl, inr, ⊎_elim}
+use Rattle.std.proofs.Common.{◌≡◌, ℕ, ◌+◌, ◌-◌, ◌≤◌, true, false, cond, List, [], ◌∷◌, ◌++◌, map, length, take, Option, None, Some, refl, sym, ap, ◌∙◌, subst, arith, append-nil, ◌⊎◌, inl, inr, ⊎_elim}
 use Rattle.std.proofs.lemmas.Bool.{and_parts, le-leb, leb-true, true≢false}
 use Rattle.std.proofs.lemmas.List.Elements.{All-from_recursion}
 use Rattle.std.specs.Prelude.{nat_le, is_some}
-use Rattle.std.specs.List.{All, AllByRecursion, fold, last_or}
+use Rattle.std.specs.List.{All, AllByRecursion, last_or, list_any}
 use Rattle.br_model.specs.declared.change.Change.{Change}
 use Rattle.br_model.specs.declared.frame.Class.{Class}
 use Rattle.br_model.specs.declared.frame.Class.TheVariants.{Drop, Trap, Copy, Forward}
@@ -14,7 +14,7 @@ use Rattle.br_model.specs.Forward.Class.{class}
 use Rattle.br_model.specs.Forward.Shares.{chip_out, soft_out}
 use Rattle.br_model.specs.Plane.Chip.{Chip}
 use Rattle.br_model.specs.Plane.Entering.{chip_of}
-use Rattle.br_model.specs.Plane.Runs.{pending_of, run, then_step}
+use Rattle.br_model.specs.Plane.Runs.{pending_of, run}
 use Rattle.br_model.specs.Plane.Steps.{world_step}
 use Rattle.br_model.specs.Plane.World.{World, Stepped, chip_at, table_of_chip}
 use Rattle.br_model.specs.Table.Cut.{cut, deferred_count}
@@ -23,7 +23,7 @@ use Rattle.br_model.specs.Table.Setup.{Setup}
 use Rattle.br_model.specs.Table.Table.{table}
 use Rattle.br_model.specs.Theorems.Invariants.{IsWorld}
 use Rattle.br_model.specs.Wire.Messages.{message}
-use Rattle.br_model.proofs.Plane.Applied.{run-setup, run-world}
+use Rattle.br_model.proofs.Plane.Applied.{run-world}
 use Rattle.br_model.proofs.Plane.Chips.{chip-dom, chip_of-at}
 use Rattle.br_model.proofs.Plane.Kept.{chip-stands, step-world}
 use Rattle.br_model.proofs.Plane.Worlds.{run-append, run_worlds, worlds}
@@ -32,8 +32,8 @@ use Rattle.timings.specs.Greedy.{repeated, same_bytes}
 use Rattle.timings.specs.Meanwhile.{ChipComesTo, SoftwareComesTo, is_meanwhile, is_turn_or_publication, value_at}
 use Rattle.timings.specs.Outcomes.{Deed, chip_rows, deed_at, deed_by, points, same_class, same_deed, soft_ports, soft_rows}
 use Rattle.timings.specs.Timings.{turned}
-use Rattle.timings.proofs.Counting.{count-most, repeated-own, some-of, step-counts-stay, there-alike, there-count, turn-grows, turned-alike, turned-world}
-use Rattle.timings.proofs.Rows.{value-where, where-values}
+use Rattle.timings.proofs.Counting.{repeated-own, some-of, step-counts-stay, there-alike, there-count, turn-grows, turned-alike, turned-world}
+use Rattle.timings.proofs.Rows.{value-among, value-where, where-values}
 use Rattle.timings.proofs.Same.{same-bytes}
 use Rattle.timings.proofs.Turning.{turn-alike}
 
@@ -119,6 +119,19 @@ module _ (setup : Setup) (before : List Step) (port : ℕ) (bytes : List ℕ) (h
       let at_w = chip_of-at w (domain_of setup.domains port) c on_w in
       let at_v : chip_at v at_w.0 ≡ Some d = ap (chip_of v) (sym at_w.1) ∙ on_v in
       chip-value w v port bytes head at_w.0 c d (run-kept setup before meanwhile e) in_w (run-world setup (before ++ meanwhile)) at_w.2 at_v
+
+  class-self : (k : Class) → same_class k k ≡ true
+  class-self Drop = refl
+  class-self Trap = refl
+  class-self Copy = refl
+  class-self Forward = refl
+
+  pub chip-classes : (meanwhile : List Step) (c d : Chip) → is_meanwhile meanwhile ≡ true → chip_of w (domain_of setup.domains port) ≡ Some c
+      → chip_of (run setup (before ++ meanwhile)).0 (domain_of setup.domains port) ≡ Some d
+      → list_any (λ r. same_class r.1.0 (deed_by (run setup (before ++ meanwhile)).0 (table_of_chip (run setup (before ++ meanwhile)).0 d) port bytes head).0) (chip_rows w c port bytes head) ≡ true
+  chip-classes meanwhile c d e on_w on_v =
+      let deed = deed_by (run setup (before ++ meanwhile)).0 (table_of_chip (run setup (before ++ meanwhile)).0 d) port bytes head in
+      value-among (λ (a : Deed). same_class a.0 deed.0) d.count deed (class-self deed.0) (chip_rows w c port bytes head) (chip-complete meanwhile c d e on_w on_v)
 
   turns-meanwhile : (doms : List ℕ) → is_meanwhile (map (λ dom. Turn dom) doms) ≡ true
   turns-meanwhile [] = refl

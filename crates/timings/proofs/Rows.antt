@@ -1,8 +1,9 @@
 -- Rows where a value differs from the one before.
-use Rattle.std.proofs.Common.{◌≡◌, ℕ, zero, suc, ◌+◌, ◌≤◌, ◌<◌, Bool, true, false, cond, List, [], ◌∷◌, map, Option, None, Some, refl, sym, ap, ◌∙◌, arith, ⊎_elim}
+use Rattle.std.proofs.Common.{◌≡◌, ℕ, zero, suc, ◌+◌, ◌≤◌, ◌<◌, Bool, true, false, cond, List, [], ◌∷◌, map, Option, None, Some, refl, ap, ◌∙◌, arith, ⊎_elim}
 use Rattle.std.proofs.lemmas.Bool.{cases_lt, le-leb, leb-true}
-use Rattle.std.specs.Prelude.{nat_le}
-use Rattle.std.specs.List.{AllByRecursion, filter, last_or}
+use Rattle.std.specs.Prelude.{nat_le, ◌||◌}
+use Rattle.std.specs.Option.{option_map_or}
+use Rattle.std.specs.List.{AllByRecursion, filter, last_or, list_any}
 use Rattle.timings.specs.Meanwhile.{value_at}
 use Rattle.timings.specs.Rows.{new_behind, where_new}
 
@@ -66,3 +67,28 @@ module _ {A : Type 0} (same : A → A → Bool) (is : (a b : A) → same a b ≡
 
   pub where-values : (k more : ℕ) → AllByRecursion (IsValue k (k + more)) (where_new same f k more)
   where-values k more = ((omega arith, omega arith, refl), behind-values k (k + more) (f k) (suc k) more (omega arith) (omega arith))
+
+-- A value that the rows say of a number is in one of them.
+
+or-skip : (b c d : Bool) → (b || d) ≡ true → (b || (c || d)) ≡ true
+or-skip true c d e = refl
+or-skip false true d e = refl
+or-skip false false d e = e
+
+or-add : (b d : Bool) → d ≡ true → (b || d) ≡ true
+or-add true d e = refl
+or-add false d e = e
+
+module _ {A : Type 0} (q : A → Bool) (n : ℕ) (a : A) (passes : q a ≡ true) where
+  among-from : (rows : List (ℕ × A)) (o : Option A) → last_or o (map (λ r. r.1) (filter (λ r. nat_le r.0 n) rows)) ≡ Some a
+      → (option_map_or q o false || list_any (λ r. q r.1) rows) ≡ true
+  among-from [] o e = ap (λ p. option_map_or q p false || false) e ∙ ap (λ b. b || false) passes
+  among-from (r ∷ rows) o e =
+      (elim (nat_le r.0 n) as (λ b. last_or o (map (λ (r : ℕ × A). r.1) (cond b (r ∷ filter (λ r. nat_le r.0 n) rows) (filter (λ r. nat_le r.0 n) rows))) ≡ Some a
+      → (option_map_or q o false || (q r.1 || list_any (λ r. q r.1) rows)) ≡ true) [
+        | true ↦ λ f. or-add (option_map_or q o false) (q r.1 || list_any (λ r. q r.1) rows) (among-from rows (Some r.1) f)
+        | false ↦ λ f. or-skip (option_map_or q o false) (q r.1) (list_any (λ r. q r.1) rows) (among-from rows o f)
+      ]) e
+
+  pub value-among : (rows : List (ℕ × A)) → value_at rows n ≡ Some a → list_any (λ r. q r.1) rows ≡ true
+  value-among rows e = among-from rows None e
