@@ -4,5 +4,5 @@
 pub mod count_laws;
 pub mod explain_laws;
 pub mod laws;
-pub mod worked_laws;
 pub mod outcome_laws;
+pub mod worked_laws;
