@@ -1,5 +1,6 @@
 /* Commands of the program over the library, for tools/test: `replay`, `follow` (of standard input), `gen NUMBER COUNT`, and `check` (of the
-   two files that are named); and `session`, a replay line by line, but for a last line that is cut off. In front of them may stand `--room N`:
+   two files that are named); and `session`, a replay line by line, but for a last line that is cut off, and `trial`, the same with each line
+   tried before. In front of them may stand `--room N`:
    the room of the first call; `--fail N`: the Nth allocation of the library is refused; `--thread`: in a thread with 512 kB of stack;
    `--times N`. */
 #include <pthread.h>
@@ -69,7 +70,7 @@ static void *give(void *nothing) {
 static switchbr_session session = SWITCHBR_SESSION_INIT;
 static uint8_t *shown;
 static size_t len;
-static int is_quiet;
+static int is_quiet, is_trial;
 
 /* Writes what a call on the session has given. */
 static int show(switchbr_status status) {
@@ -97,6 +98,18 @@ static size_t section_behind(const char *line, size_t size) {
     return sscanf(copy, " capture %zu", &length) == 1 ? length : 0;
 }
 
+/* What becomes of a line, as it was tried. */
+static int tried_line(const uint8_t *line, size_t size) {
+    uint8_t last[64];
+    size_t last_len = 9;
+    switchbr_status tried = is_trial ? switchbr_try(&session, line, size, last, sizeof last, &last_len) : SWITCHBR_NO_MEMORY;
+    switchbr_status status = show(switchbr_line(&session, line, size, shown, first_room, &len));
+    if (tried == SWITCHBR_NO_MEMORY || status == SWITCHBR_NO_MEMORY) return status;
+    if (tried != status || (tried != SWITCHBR_BAD_LINE && last_len)) exit(109);
+    if (len < last_len || memcmp(shown + len - last_len, last, last_len)) exit(110);
+    return status;
+}
+
 static void step_by_step(void) {
     size_t at = 0;
     shown = __real_malloc(first_room + 1);
@@ -106,7 +119,7 @@ static void step_by_step(void) {
         const uint8_t *line = one.bytes + at, *feed = memchr(line, '\n', one.len - at);
         size_t size = feed ? (size_t)(feed - line) : one.len - at, section = section_behind((const char *)line, size);
         if (!feed && size <= 20000 && !is_end((const char *)line, size)) break;
-        answer = show(switchbr_line(&session, line, size, shown, first_room, &len));
+        answer = tried_line(line, size);
         at += size + !!feed;
         if (answer || !section) continue;
         if (section > one.len - at) break;
@@ -139,7 +152,8 @@ int main(int count, char **given) {
     if (!strcmp(words[0], "check")) one = read_all(words[1]), two = read_all(words[2]);
     else if (strcmp(words[0], "gen")) one = read_all(NULL);
     refused = fail ? asked + fail : 0;
-    void *(*run)(void *) = strcmp(words[0], "session") ? give : steps;
+    is_trial = !strcmp(words[0], "trial");
+    void *(*run)(void *) = is_trial || !strcmp(words[0], "session") ? steps : give;
     if (in_thread) {
         pthread_attr_t small;
         pthread_t thread;

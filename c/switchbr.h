@@ -17,6 +17,8 @@
      TOO_LONG   0                 nothing is written   as before
      CLOSED     0                 nothing is written   as before
      NO_MEMORY  0                 nothing is written   is closed
+
+   `switchbr_try` leaves a session as it was, whatever its status.
 */
 #ifndef SWITCHBR_H
 #define SWITCHBR_H
@@ -29,7 +31,7 @@ extern "C" {
 
 #define SWITCHBR_VERSION "0.1.0"
 #define SWITCHBR_VERSION_NUMBER 0x000100 /* a byte each: major, minor, patch */
-#define SWITCHBR_ABI 2
+#define SWITCHBR_ABI 3
 uint32_t switchbr_abi(void); /* another number than SWITCHBR_ABI: this header isn't the library's */
 
 /* Up to 7 they are those of the program, whose faults of reading and writing (4, 5) don't come here. */
@@ -96,6 +98,11 @@ switchbr_status switchbr_open(switchbr_session *session);
 switchbr_status switchbr_line(switchbr_session *session, const uint8_t *line, size_t size, uint8_t *out, size_t room, size_t *len);
 switchbr_status switchbr_section(switchbr_session *session, const uint8_t *section, size_t size, uint8_t *out, size_t room, size_t *len);
 switchbr_status switchbr_text(switchbr_session *session, uint8_t *out, size_t room, size_t *len);
+
+/* Tells what would become of a session's next line, which isn't taken: the session is as before, whatever the status.
+   OK: the line would be taken; *len is 0. BAD_LINE: the scenario would end; the text is `bad N WHY`, and no transcript.
+   NO_ROOM: the same call with *len bytes of room gives the text. NO_MEMORY. USAGE, TOO_LONG, CLOSED: as `line` would answer. */
+switchbr_status switchbr_try(switchbr_session *session, const uint8_t *line, size_t size, uint8_t *out, size_t room, size_t *len);
 
 /* Ends a session, wherever it stands, and frees it. OK, or CLOSED: it wasn't open. */
 switchbr_status switchbr_end(switchbr_session *session);

@@ -34,6 +34,7 @@ _DECLARED = {
     "switchbr_check": (ctypes.c_uint8, [_bytes, _size, _bytes, _size, ctypes.POINTER(ctypes.c_uint32)]),
     "switchbr_open": (ctypes.c_uint8, [_handle]),
     "switchbr_line": (ctypes.c_uint8, [_handle, _bytes, _size, _room, _size, _len]),
+    "switchbr_try": (ctypes.c_uint8, [_handle, _bytes, _size, _room, _size, _len]),
     "switchbr_section": (ctypes.c_uint8, [_handle, _bytes, _size, _room, _size, _len]),
     "switchbr_text": (ctypes.c_uint8, [_handle, _room, _size, _len]),
     "switchbr_end": (ctypes.c_uint8, [_handle]),
@@ -49,7 +50,7 @@ def _opened() -> ctypes.CDLL:
     for name, (result, words) in _DECLARED.items():
         call = getattr(lib, name)
         call.restype, call.argtypes = result, words
-    if lib.switchbr_abi() != 2:
+    if lib.switchbr_abi() != 3:
         raise ImportError(f"{lib._name} is of another version than this package ({__version__})")
     return lib
 
@@ -82,6 +83,12 @@ def _no_fault(status: int) -> None:
         raise MemoryError
     if status == _TOO_LONG:
         raise TooLong
+
+
+def _is_wanted(status: int) -> None:
+    if status in (_USAGE, _CLOSED):
+        raise ValueError("the session is closed, or its scenario has ended" if status == _CLOSED else "another line or section is wanted")
+    _no_fault(status)
 
 
 def _no_bad_line(status: int, text: str) -> None:
@@ -173,9 +180,7 @@ class Session:
         if status == _NO_ROOM:
             self._room = ctypes.create_string_buffer(self._len.value)
             status = _LIB.switchbr_text(self._session, self._room, len(self._room), ctypes.byref(self._len))
-        if status in (_USAGE, _CLOSED):
-            raise ValueError("the session is closed, or its scenario has ended" if status == _CLOSED else "another line or section is wanted")
-        _no_fault(status)
+        _is_wanted(status)
         text = ctypes.string_at(self._room, self._len.value).decode()
         _no_bad_line(status, text)
         return text.splitlines()
@@ -191,6 +196,17 @@ class Session:
             self._entered += 1
         changed = any(last.startswith("ok ") and not last.endswith(" 0") for last in told[-1:])
         return told + self._taken("publish") if self._publish and changed else told
+
+    def try_line(self, line: Text) -> Optional[BadLine]:
+        """What `line` would raise of the line, as a bad one; None where it would be taken. The session is as before."""
+        given, out = _given(line), ctypes.create_string_buffer(64)
+        status = _LIB.switchbr_try(self._session, given, len(given), out, len(out), ctypes.byref(self._len))
+        _is_wanted(status)
+        try:
+            _no_bad_line(status, ctypes.string_at(out, self._len.value).decode())
+        except BadLine as bad:
+            return bad
+        return None
 
     def section(self, section: bytes) -> List[str]:
         """Takes the whole section of the line `capture LENGTH` before."""

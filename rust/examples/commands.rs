@@ -1,5 +1,5 @@
 //! Commands of the program over the library, for tools/test: `replay` and `follow` of standard input, `gen NUMBER COUNT`, `check` of two files;
-//! and `session`, a replay line by line, but for a last line that is cut off.
+//! `session`, a replay line by line, but for a last line that is cut off; and `trial`, the same with each line tried before.
 use std::env::args;
 use std::fs::read;
 use std::io::{Read, Write, stdin, stdout};
@@ -26,7 +26,7 @@ fn section_behind(line: &[u8]) -> usize {
 }
 
 /// Writes what is told, and answers the status.
-fn step_by_step(mut rest: &[u8]) -> Result<u8, Fault> {
+fn step_by_step(mut rest: &[u8], is_trial: bool) -> Result<u8, Fault> {
     let mut session = Session::open()?;
     if rest.is_empty() {
         println!("transcript 1");
@@ -37,7 +37,10 @@ fn step_by_step(mut rest: &[u8]) -> Result<u8, Fault> {
         if feed.is_none() && line.len() <= 20_000 && !is_end(line) {
             return Ok(3);
         }
-        match session.line(line) {
+        let tried = is_trial.then(|| session.try_line(line));
+        let told = session.line(line);
+        assert!(tried.is_none_or(|tried| tried.err().map(|fault| fault.to_string()) == told.clone().err().map(|fault| fault.to_string())));
+        match told {
             Err(Fault::Closed) => return Ok(0),
             told => print!("{}", told?),
         }
@@ -65,7 +68,7 @@ fn main() -> ExitCode {
             let files = read(scenario).and_then(|one| Ok((one, read(transcript)?))).expect("both are read");
             check(&files.0, &files.1).map(|line| line.map_or(String::new(), |line| format!("{line}\n")))
         }
-        ["session"] => match step_by_step(&input()) {
+        ["session" | "trial"] => match step_by_step(&input(), words[0] == "trial") {
             Ok(status) => return ExitCode::from(status),
             Err(fault) => Err(fault),
         },

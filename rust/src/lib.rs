@@ -16,7 +16,7 @@ const TOO_LONG: u8 = 7;
 const NO_ROOM: u8 = 16;
 const CLOSED: u8 = 17;
 
-const ABI: u32 = 2;
+const ABI: u32 = 3;
 
 #[repr(C)]
 struct Handle {
@@ -32,6 +32,7 @@ extern "C" {
     fn switchbr_check(scenario: *const u8, size: usize, transcript: *const u8, transcript_size: usize, line: *mut u32) -> u8;
     fn switchbr_open(session: *mut Handle) -> u8;
     fn switchbr_line(session: *mut Handle, line: *const u8, size: usize, out: *mut u8, room: usize, len: *mut usize) -> u8;
+    fn switchbr_try(session: *mut Handle, line: *const u8, size: usize, out: *mut u8, room: usize, len: *mut usize) -> u8;
     fn switchbr_section(session: *mut Handle, section: *const u8, size: usize, out: *mut u8, room: usize, len: *mut usize) -> u8;
     fn switchbr_text(session: *mut Handle, out: *mut u8, room: usize, len: *mut usize) -> u8;
     fn switchbr_end(session: *mut Handle) -> u8;
@@ -194,6 +195,24 @@ impl Session {
     pub fn line(&mut self, line: &[u8]) -> Result<String, Fault> {
         let (at, size) = (line.as_ptr(), line.len());
         self.told(|handle, out, room, len| unsafe { switchbr_line(handle, at, size, out, room, len) })
+    }
+
+    /// What `line` would answer of the line: `Fault::BadLine`, of which the text is `bad N WHY`, or another fault. The session is as before, after
+    /// want of memory, too.
+    ///
+    /// ```
+    /// let mut session = switchbr::Session::open()?;
+    /// session.line(b"scenario 1")?;
+    /// let typo = session.try_line(b"prot 1 p1 soft").unwrap_err();
+    /// assert_eq!(typo.to_string(), "bad 2 word");
+    /// session.line(b"port 1 p1 soft")?;
+    /// # Ok::<(), switchbr::Fault>(())
+    /// ```
+    pub fn try_line(&mut self, line: &[u8]) -> Result<(), Fault> {
+        let (mut out, mut len) = (vec![0; 64], 0);
+        let status = unsafe { switchbr_try(&mut self.handle, line.as_ptr(), line.len(), out.as_mut_ptr(), out.len(), &mut len) };
+        out.truncate(len);
+        given(status, out).map(|_| ())
     }
 
     /// Takes the whole section of the line `capture LENGTH` before.

@@ -2,3 +2,4 @@ pub mod Giving
 pub mod Looses
 pub mod Handles
 pub mod Sessions
+pub mod Trials

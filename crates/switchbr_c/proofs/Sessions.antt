@@ -52,7 +52,7 @@ module _ (x y : Session) (text old new : List ℕ) (len status : ℕ) (well : Bo
 
 -- what it has answered
 
-or_more : (a b c d e f g : Bool) → (a || (b || (c || false))) ≡ true → (a || (d || (b || (e || (f || (c || (g || false))))))) ≡ true
+pub or_more : (a b c d e f g : Bool) → (a || (b || (c || false))) ≡ true → (a || (d || (b || (e || (f || (c || (g || false))))))) ≡ true
 or_more true b c d e f g h = refl
 or_more false b c true e f g h = refl
 or_more false true c false e f g h = refl

@@ -13,6 +13,7 @@ ghost use Rattle.whole_texts.specs.Sessions.{IsSound};
 ghost use Rattle.whole_texts.specs.Texts.{ends_well};
 ghost use Rattle.switchbr_c.specs.Calls.{Checks, Tells, is_of};
 ghost use Rattle.switchbr_c.specs.Sessions.{Ends, GivesKept, GivesText, MayRefuse, MaySettle, Opens, PassesLine, PassesSection, Refuses, Settles, fine_at};
+ghost use Rattle.switchbr_c.specs.Trials.{TriesLine, status_of as number_of};
 
 mod handle;
 mod loose;
@@ -46,9 +47,9 @@ const CLOSED: u8 = 17;
 /// The number of this interface.
 #[unsafe(no_mangle)]
 pub extern "C" fn switchbr_abi() -> u32
-    ensures { result ≡ 2 }
+    ensures { result ≡ 3 }
 {
-    2
+    3
 }
 
 /// Gives a text to the room, where it fits, and tells its length.
@@ -263,6 +264,40 @@ pub extern "C" fn switchbr_line(
     };
     let answer = taken.line(alloc, line);
     settle(alloc, session, taken, answer, out, len)
+}
+
+fn status_of(fault: SessionFault) -> u8
+    ensures { result ≡ number_of fault }
+{
+    match fault {
+        SessionFault::Ended => CLOSED,
+        SessionFault::Misplaced => USAGE,
+        SessionFault::TooLong => TOO_LONG,
+        SessionFault::NoMemory => NO_MEMORY,
+    }
+}
+
+/// Tells what would become of a session's next line, which isn't taken.
+#[unsafe(no_mangle)]
+pub extern "C" fn switchbr_try(
+    alloc: Global,
+    session: &mut Handle,
+    line: &[u8],
+    out: &mut [u8],
+    len: &mut usize,
+) -> u8
+    ensures { TriesLine session.old.value line.now out.old out.new len.new session.new.value result }
+{
+    *len = 0;
+    let Some(tried) = session.take(alloc) else {
+        return CLOSED;
+    };
+    let answer = tried.try_line(alloc, line);
+    session.put(alloc, tried);
+    match answer {
+        Ok(told) => give(told.text.as_bytes(), told.well, out, len),
+        Err(fault) => status_of(fault),
+    }
 }
 
 /// Gives a session the section of the line before.

@@ -2,7 +2,7 @@
 use super::handle::Handle;
 use super::{
     switchbr_abi, switchbr_check, switchbr_end, switchbr_follow, switchbr_generate, switchbr_line,
-    switchbr_open, switchbr_replay, switchbr_section, switchbr_text,
+    switchbr_open, switchbr_replay, switchbr_section, switchbr_text, switchbr_try,
 };
 use std::alloc::Global;
 use std::process::Abort;
@@ -128,5 +128,55 @@ fn a_session_is_opened_and_ended(rt: HostRuntime) {
     assert_lines(&rt, rt.alloc(), &mut session, WHOLE);
     assert_eq!(&rt; switchbr_end(rt.alloc(), &mut session), 0);
     assert_lines(&rt, rt.alloc(), &mut session, &[(b"scenario 1", 17, b"")]);
+    session.end(rt.alloc());
+}
+
+const BEFORE_A_TRIAL: &[Row] = &[
+    (b"scenario 1", 0, b"transcript 1\n"),
+    (b"port 1 p1 chip 1", 0, b""),
+];
+
+const TRIED: &[Row] = &[
+    (b"prot 2 p2 soft", 3, b"bad 3 word\n"),
+    (b"port 1 p2 soft", 3, b"bad 3 port\n"),
+    (b"port 2 p2 soft", 0, b""),
+    (b"cmd port up p1", 0, b""),
+    (b"capture 4", 0, b""),
+    (b"end\n", 2, b""),
+    (b"end", 0, b""),
+];
+
+const BEHIND_A_TRIAL: &[Row] = &[
+    (b"port 2 p2 soft", 0, b""),
+    (b"cmd port up p1", 0, b"ok 1 3\n"),
+    (b"end", 0, b"end 1 3 0 0\n"),
+];
+
+fn assert_tried(rt: &impl Abort, alloc: Global, session: &mut Handle, rows: &[Row]) {
+    for row in rows {
+        let (line, status, told) = *row;
+        let mut out = [0; 64];
+        let mut len = 9;
+        let found = switchbr_try(alloc, session, line, &mut out, &mut len);
+        assert_eq!(rt; (found, len), (status, told.len()));
+        assert_eq!(rt; out.get(..len), Some(told));
+    }
+}
+
+#[test]
+fn lines_are_tried(rt: HostRuntime) {
+    let mut session = Handle::none();
+    assert_tried(&rt, rt.alloc(), &mut session, &[(b"scenario 1", 17, b"")]);
+    assert_eq!(&rt; switchbr_open(rt.alloc(), &mut session), 0);
+    assert_lines(&rt, rt.alloc(), &mut session, BEFORE_A_TRIAL);
+    assert_tried(&rt, rt.alloc(), &mut session, TRIED);
+    let mut small = [b'.'; 9];
+    let mut len = 9;
+    let status = switchbr_try(rt.alloc(), &mut session, b"", &mut small, &mut len);
+    assert_told(&rt, (status, len), &small, (0, 0), &[b'.'; 9]);
+    let status = switchbr_try(rt.alloc(), &mut session, b"end end", &mut small, &mut len);
+    assert_told(&rt, (status, len), &small, (16, 11), &[b'.'; 9]);
+    assert_lines(&rt, rt.alloc(), &mut session, BEHIND_A_TRIAL);
+    assert_tried(&rt, rt.alloc(), &mut session, &[(b"end", 17, b"")]);
     session.end(rt.alloc());
 }

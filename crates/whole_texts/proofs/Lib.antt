@@ -2,3 +2,5 @@ pub mod Messages
 pub mod Sessions
 pub mod Whole
 pub mod Stages
+pub mod Rosters
+pub mod Trials

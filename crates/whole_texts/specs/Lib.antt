@@ -2,3 +2,4 @@ pub mod Texts
 pub mod Messages
 pub mod Stages
 pub mod Sessions
+pub mod Trials

@@ -2,11 +2,13 @@
 //! needed.
 #![tactic(auto)]
 
+mod copying;
 mod following;
 mod heap_world;
 mod lone;
 mod replaying;
 mod session;
+mod trying;
 
 pub use br_model::NoMemory;
 pub use following::follow;

@@ -6,10 +6,12 @@ ghost use Rattle.br_model.specs.Theorems.Invariants.{IsWorld};
 ghost use Rattle.scenario_reader.specs.Reading.{IsBehindDeclarations};
 ghost use Rattle.whole_texts.specs.Sessions.{Admits, EndsSection, Goes, HasFinished, IsAt, IsSectionWanted, IsSound, IsWanted, RefusesLine, RefusesSection, Takes, end_of, ended_of, told_so_far};
 ghost use Rattle.scenario_play.specs.Playing.{IsSteady};
+ghost use Rattle.whole_texts.specs.Trials.{TellsEnd, Tries, ending_with};
 
 use crate::NoMemory;
 use crate::lone::Lone;
-use crate::replaying::{first_text, is_well};
+use crate::replaying::{Told, first_text, is_well};
+use crate::trying::{bad_text, end_by};
 use br_model::limits::MOST_BYTES;
 use scenario_play::{Play, Taken, first_line};
 use scenario_reader::Last;
@@ -178,6 +180,32 @@ impl Session {
             Ok(()) => Ok(()),
             Err(_) => Err(SessionFault::NoMemory),
         }
+    }
+
+    /// Tells what would become of the next line, which isn't taken: the last line of the transcript where it is bad, and else nothing.
+    ///
+    /// # Errors
+    ///
+    /// A `SessionFault`. After want of memory, too, the session is as before.
+    pub fn try_line(&self, alloc: Global, line: &[u8]) -> Result<Told, SessionFault>
+        requires { IsSound self.now }
+        ensures { Tries self.now line.now result }
+    {
+        self.admit_line(line)?;
+        match self.trial(alloc, line) {
+            Ok(told) => Ok(told),
+            Err(_) => Err(SessionFault::NoMemory),
+        }
+    }
+
+    /// The same of a line that is wanted.
+    fn trial(&self, alloc: Global, line: &[u8]) -> Result<Told, NoMemory>
+        requires sound { IsSound self.now }
+        requires wanted { IsWanted self.now line.now }
+        ensures { IfOk result (λ told. (bytes given : List ℕ) → IsAt bytes given self.now → TellsEnd (ending_with bytes line.now) told) }
+    {
+        let end = end_by(alloc, self.play.reader(), line)?;
+        bad_text(alloc, end)
     }
 
     /// Takes the whole section of the line before.
