@@ -14,6 +14,7 @@ ghost use Rattle.br_model.specs.Plane.Steps.{publishes};
 ghost use Rattle.br_model.specs.Plane.World.{answered, chip_at, reacts, sent};
 ghost use Rattle.br_model.specs.Table.Change.{updates};
 ghost use Rattle.br_model.specs.Table.Cut.{deferred_count};
+ghost use Rattle.br_model.specs.Table.Limits.{AreWithin};
 ghost use Rattle.br_model.specs.Table.Table.{table};
 ghost use Rattle.br_model.specs.Wire.Messages.{message as message_of};
 ghost use Rattle.br_model.specs.declared.steps.Event.TheVariants as Event;
@@ -30,7 +31,7 @@ ghost use Rattle.check_world.specs.Sides.{of_sides, first_sides, table_of, world
 use crate::NoMemory;
 use crate::cuts::Cuts;
 use crate::point::Point;
-use br_model::change::Update;
+use br_model::change::{Change, Update};
 use br_model::domains::Domains;
 use br_model::frame::{Head, McastMsg};
 use br_model::numbers::{Dom, Mac, Port};
@@ -277,7 +278,7 @@ impl Sides {
     }
 
     /// The deferred change that the chip of the domain applies next, if one is pending.
-    fn next_update(&self, d: Dom) -> Option<Update>
+    pub(crate) fn next_update(&self, d: Dom) -> Option<Update>
         requires { is_some (chip_in self.now.chips d) ≡ true }
         ensures { (c : ChipValue) → chip_in self.now.chips d ≡ Some c
             → result ≡ slice_get (updates self.now.setup.domains.edition self.now.history) c.count }
@@ -415,6 +416,14 @@ impl Sides {
         ensures { result.now ≡ self.now.setup.domains }
     {
         self.bridge.domains()
+    }
+
+    /// The accepted changes, the oldest first.
+    pub(crate) fn history(&self) -> &[Change]
+        ensures value { result.now ≡ self.now.history }
+        ensures within { AreWithin result.now }
+    {
+        self.bridge.history()
     }
 
     /// How many changes were accepted.

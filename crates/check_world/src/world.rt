@@ -1,14 +1,17 @@
 //! The world of a bridge with chips, without the chips.
-ghost use Rattle.std.specs.Prelude.{◌≡◌, ◌==◌, ◌+◌, ◌<◌, ◌≤◌, ◌^◌, IfOk, None, Ok, OnOk, Some, is_some, length, true};
+ghost use Rattle.std.specs.Prelude.{◌≡◌, ◌==◌, ◌+◌, ◌<◌, ◌≤◌, ◌^◌, IfOk, None, Ok, OnOk, Some, is_some, length, slice_get, true};
 ghost use Rattle.std.specs.List.{find};
 ghost use Rattle.std.specs.List.Sorted.{IsStrictlySortedBy};
+ghost use Rattle.std.specs.Option.{option_map};
 ghost use Rattle.std.specs.Ordering.{nat_cmp};
 ghost use Rattle.br_model.specs.Plane.Chip.{Chip as ChipValue};
 ghost use Rattle.br_model.specs.Plane.Entering.{chip_of};
 ghost use Rattle.br_model.specs.Plane.Runs.{end_line};
 ghost use Rattle.br_model.specs.Plane.Serving.{held_with};
 ghost use Rattle.br_model.specs.Plane.World.{chip_at, first_world};
+ghost use Rattle.br_model.specs.Table.Change.{updates};
 ghost use Rattle.br_model.specs.Table.Domains.{Domains as DomainsValue, chip_domains, domain_of};
+ghost use Rattle.br_model.specs.Table.Limits.{AreWithin};
 ghost use Rattle.br_model.specs.Text.LineForms.{comes_by_line};
 ghost use Rattle.br_model.specs.Theorems.Invariants.{IsWorld};
 ghost use Rattle.br_model.specs.Wire.Frames.{frame as frame_of};
@@ -23,6 +26,7 @@ ghost use Rattle.check_world.specs.Worlds.{IsOnChip, PostsHeld, Tells, arrival_b
 use crate::NoMemory;
 use crate::sides::Sides;
 use br_model::bytes::Bytes;
+use br_model::change::{Change, Update};
 use br_model::domains::Domains;
 use br_model::frame::{Class, Head, McastMsg};
 use br_model::numbers::{Dom, Mac, Port};
@@ -382,6 +386,48 @@ impl World {
             Step::Sweep(dom) => self.sweep(alloc, dom, lines),
             Step::Publish => self.publish(lines),
         }
+    }
+
+    /// The declared ports with their domains.
+    pub fn domains(&self) -> &Domains
+        ensures { result.now ≡ self.now.setup.domains }
+    {
+        self.sides.domains()
+    }
+
+    /// The accepted changes, the oldest first.
+    pub fn history(&self) -> &[Change]
+        ensures value { result.now ≡ self.now.history }
+        ensures within { AreWithin result.now }
+    {
+        self.sides.history()
+    }
+
+    /// How many of them are published.
+    pub fn published(&self) -> u32
+        ensures { result ≡ self.now.published }
+    {
+        self.sides.published()
+    }
+
+    /// How many deferred changes the chip of the domain has applied; none where it has no chip.
+    pub fn applied(&self, dom: Dom) -> Option<u32>
+        ensures { result ≡ option_map (λ c. c.count) (chip_at self.now dom) }
+    {
+        if self.sides.has_chip(dom) {
+            Some(self.sides.applied(dom))
+        } else {
+            None
+        }
+    }
+
+    /// The deferred change that the chip of the domain applies next, if one is pending.
+    pub fn next_update(&self, dom: Dom) -> Option<Update>
+        requires { is_some (chip_at self.now dom) ≡ true }
+        ensures { (c : ChipValue) → chip_at self.now dom ≡ Some c
+            → result ≡ slice_get (updates self.now.setup.domains.edition self.now.history) c.count }
+    {
+        self.sides.next_update(dom)
     }
 
     /// The last line of a run that ends here.

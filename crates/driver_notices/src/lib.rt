@@ -3,7 +3,6 @@
 //! A `Teller` gives the lines of a run as it goes on, and `append_line` writes one.
 #![tactic(auto)]
 
-mod groups;
 pub mod laws;
 mod line;
 mod teller;

@@ -6,14 +6,13 @@ ghost use Rattle.br_model.specs.declared.change.Change.TheVariants.{AddrDel, Add
 ghost use Rattle.driver_notices.specs.Lines.{flags_text, group_object as object_of_group, is_among, line_text, member_object, notice_text, state_word as word_of_state, switch_word as word_of_switch, text, version_word as word_of_version};
 
 use crate::NoMemory;
-use crate::groups::append_group;
 use crate::line::NoticeLine;
 use br_model::change::{Change, Flags, Kind};
 use br_model::group::Group;
 use br_model::numbers::{Mac, Port, Vid};
 use br_model::spelling::{append_mac, kind_word};
 use bridge_command::Roster;
-use scenario_text::device;
+use scenario_text::{append_group, device};
 
 /// None above the last state.
 fn state_word(state: u8) -> &'static str

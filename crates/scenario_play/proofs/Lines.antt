@@ -35,7 +35,7 @@ use Rattle.scenario_play.proofs.Steps.{among, among_stands, does_one, fits_at, k
 pub over_at : (given : List ℕ) (s t : Scenario) (w : Standing) (all : List ℕ) (last : Last) → s ≡ t → IsOver given t w all last → IsOver given s w all last
 over_at given s t w all last is h = subst (λ (u : Scenario). IsOver given u w all last) (sym is) h
 
-has_ended_by : (last : Last) → has_ended (ending_of last) ≡ true
+pub has_ended_by : (last : Last) → has_ended (ending_of last) ≡ true
 has_ended_by lasts.Ended = refl
 has_ended_by (lasts.Bad n why) = refl
 

@@ -13,6 +13,6 @@ mod write;
 
 pub use br_model::NoMemory;
 pub use head::{append_head, append_scenario, write_head};
-pub use listing::{device, list};
+pub use listing::{append_group, device, list};
 pub use reading::{read_line, says_end};
 pub use write::{append_line, write_line};

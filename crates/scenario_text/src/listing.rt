@@ -104,7 +104,8 @@ fn append_memberships(table: &Table, roster: &Roster, to: &mut String) -> Result
     Ok(())
 }
 
-fn append_group(group: Group, to: &mut String) -> Result<(), NoMemory>
+/// The address of a group: four decimal numbers joined by dots, or eight groups of four hexadecimal digits joined by colons.
+pub fn append_group(group: Group, to: &mut String) -> Result<(), NoMemory>
     ensures { OnOk result (string_bytes to.new ≡ string_bytes to.old ++ group_text group) }
 {
     match group {
