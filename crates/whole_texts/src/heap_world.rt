@@ -43,6 +43,12 @@ impl HeapWorld {
         Ok(HeapWorld { world })
     }
 
+    pub(crate) fn world(&self) -> &World
+        ensures { result.now ≡ self.now }
+    {
+        &self.world
+    }
+
     /// Does a step that a line of a check can give. The lines of the step are added.
     pub(crate) fn step(
         &mut self,

@@ -12,5 +12,6 @@ mod trying;
 
 pub use br_model::NoMemory;
 pub use following::follow;
+pub use lone::Lone;
 pub use replaying::{Told, replay};
 pub use session::{Session, SessionFault};

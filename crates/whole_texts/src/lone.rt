@@ -1,27 +1,39 @@
 //! What a scenario is played on here.
 ghost use Rattle.std.specs.Prelude.{◌≡◌, None};
+ghost use Rattle.std.specs.Option.{option_map};
 
 use crate::NoMemory;
 use crate::heap_world::HeapWorld;
 use br_model::steps::Step;
 use br_model::transcript::Line;
 use bridge_command::Roster;
+use check_world::World;
 use scenario_play::Stage;
 use std::alloc::Global;
 use transcript_lines::Lines;
 
 /// A world on the heap alone, once it was made.
 #[derive(Drop)]
-pub(crate) struct Lone {
+pub struct Lone {
     world: Option<HeapWorld>,
 }
 
 impl Lone {
     /// Before the first step.
-    pub(crate) fn new() -> Lone
+    pub fn new() -> Lone
         ensures { result.world ≡ None }
     {
         Lone { world: None }
+    }
+
+    /// The world behind the steps so far. `None` before the first one.
+    pub fn world(&self) -> Option<&World>
+        ensures { option_map (λ w. w.now) result ≡ self.now.world }
+    {
+        match &self.world {
+            Some(world) => Some(world.world()),
+            None => None,
+        }
     }
 }
 
