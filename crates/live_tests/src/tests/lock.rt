@@ -24,14 +24,14 @@ use std::test::Fail;
 use table_publish::{Board, Name, Seat, Seen};
 use transcript_lines::{Lines, Row};
 
-fn port(number: u8) -> Result<Port, Fail>
+pub(super) fn port(number: u8) -> Result<Port, Fail>
     ensures { IfOk result (λ p. p ≡ number) }
 {
     Ok(Port::new(number).ok_or("port")?)
 }
 
 /// Two ports of the chip, and one of software.
-fn domains() -> Result<Domains, Fail>
+pub(super) fn domains() -> Result<Domains, Fail>
     ensures { IfOk result (λ d. chip_domains d ≡ 1 ∷ []) }
 {
     let mut domains = Domains::make();
@@ -64,7 +64,7 @@ fn station(number: u8) -> Mac {
 }
 
 /// A static address of station `number` at port 2.
-fn address(number: u8) -> Result<Command, Fail> {
+pub(super) fn address(number: u8) -> Result<Command, Fail> {
     Ok(Command::FdbAdd {
         vid: Vid::DEFAULT,
         mac: station(number),
@@ -74,10 +74,10 @@ fn address(number: u8) -> Result<Command, Fail> {
 }
 
 /// A frame of station 10 to station 11.
-const FRAME: &[u8] = &[2, 0, 0, 0, 0, 11, 2, 0, 0, 0, 0, 10, 0x88, 0xB5, 0, 0];
+pub(super) const FRAME: &[u8] = &[2, 0, 0, 0, 0, 11, 2, 0, 0, 0, 0, 10, 0x88, 0xB5, 0, 0];
 
 /// A frame of station 12 to station 10.
-const FIRST_OF_TWELVE: &[u8] = &[2, 0, 0, 0, 0, 10, 2, 0, 0, 0, 0, 12, 0x88, 0xB5, 0, 0];
+pub(super) const FIRST_OF_TWELVE: &[u8] = &[2, 0, 0, 0, 0, 10, 2, 0, 0, 0, 0, 12, 0x88, 0xB5, 0, 0];
 
 /// A frame of station 10 to station 12.
 const ANSWER: &[u8] = &[2, 0, 0, 0, 0, 12, 2, 0, 0, 0, 0, 10, 0x88, 0xB5, 0, 0];
