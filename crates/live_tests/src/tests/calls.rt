@@ -9,6 +9,7 @@ use br_model::numbers::{Dom, Mac};
 use br_model::steps::{Command, Event};
 use br_model::transcript::Line;
 use ether_frames::parse;
+use forward_rules::Verdict;
 use igmp_mld::classify;
 use plane_core::{Held, Plane, TurnFault};
 use plane_record::Ran;
@@ -211,6 +212,7 @@ fn post(alloc: Global, plane: &mut Plane, seat: &mut Seat) -> Result<Lines, Fail
 {
     let held = plane.open_frame(alloc)?.ok_or("no frame")?;
     let seen = decide(seat, &held)?;
+    let _verdict: Verdict = seen.verdict;
     plane.tell(seat);
     plane.stands();
     match plane.post(alloc, held, seen) {
@@ -225,6 +227,7 @@ fn post_in_run(alloc: Global, ran: &mut Ran, seat: &mut Seat) -> Result<Lines, F
 {
     let held = ran.open_frame(alloc)?.ok_or("no frame")?;
     let seen = decide(seat, &held)?;
+    let _verdict: Verdict = seen.verdict;
     ran.tell(seat);
     ran.plane().stands();
     match ran.post(alloc, held, seen) {
