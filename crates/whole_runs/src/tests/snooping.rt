@@ -2,6 +2,10 @@
 use super::rows::{row_is_told, run_is_told};
 use super::starts::{SOFT, with_chip};
 use capture_runner::Status;
+use std::alloc::{AllocError, Global};
+use std::process::Abort;
+use std::sync::Wait;
+use std::thread::Threads;
 
 /// A report whose record is cut short is flooded, and it is trapped at a port of the chip.
 const CUT_SHORT: &str =
@@ -53,6 +57,20 @@ const NEAR_STREAM: &str = "01005e00000502000000000c080045000014000000000111cfd20
 const MLD_REPORT: &str =
     "33330000123402000000000a86dd6000000000200001fe80000000000000000000000000000aff0500000000000000000000000012343a0005020000010083005bae00000000ff050000000000000000000000001234";
 
+/// The run is told as it says.
+fn row_of(
+    rt: &(impl Abort + Threads + Wait + Sync),
+    alloc: Global,
+    text: Result<String, AllocError>,
+) {
+    row_is_told(
+        rt,
+        alloc,
+        text.expect(rt, "memory").as_str(),
+        Status::Ok,
+    );
+}
+
 /// A report, a query and a leave move a stream to where it is wanted.
 #[test]
 fn snooping(rt: HostRuntime) {
@@ -74,12 +92,7 @@ serve => soft 6 at 14; tx 6 0 {NEAR_STREAM}; tx 6 1 {NEAR_STREAM}; tx 6 3 {NEAR_
 end => end 18 17 3 0
 "
     );
-    row_is_told(
-        &rt,
-        rt.alloc(),
-        text.expect(&rt, "memory").as_str(),
-        Status::Ok,
-    );
+    row_of(&rt, rt.alloc(), text);
 }
 
 /// It lasts for 260 s.
@@ -93,12 +106,7 @@ now 260000 => ok 8 1
 end => end 8 12 1 0
 "
     );
-    row_is_told(
-        &rt,
-        rt.alloc(),
-        text.expect(&rt, "memory").as_str(),
-        Status::Ok,
-    );
+    row_of(&rt, rt.alloc(), text);
 }
 
 /// The example of a group with members on both sides, and of a router that moves.
@@ -140,10 +148,5 @@ rx 1 {OTHER_STREAM} => chip 9 at 21 0 forward; tx 9 2 {OTHER_STREAM}
 end => end 27 21 2 0
 "
     );
-    row_is_told(
-        &rt,
-        rt.alloc(),
-        text.expect(&rt, "memory").as_str(),
-        Status::Ok,
-    );
+    row_of(&rt, rt.alloc(), text);
 }
