@@ -212,6 +212,7 @@ fn post(alloc: Global, plane: &mut Plane, seat: &mut Seat) -> Result<Lines, Fail
 {
     let held = plane.open_frame(alloc)?.ok_or("no frame")?;
     let seen = decide(seat, &held)?;
+    // `post` takes the verdict along: its type has to be named once for the proof.
     let _verdict: Verdict = seen.verdict;
     plane.tell(seat);
     plane.stands();
@@ -227,6 +228,7 @@ fn post_in_run(alloc: Global, ran: &mut Ran, seat: &mut Seat) -> Result<Lines, F
 {
     let held = ran.open_frame(alloc)?.ok_or("no frame")?;
     let seen = decide(seat, &held)?;
+    // As in `post`.
     let _verdict: Verdict = seen.verdict;
     ran.tell(seat);
     ran.plane().stands();
