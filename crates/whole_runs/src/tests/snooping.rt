@@ -63,12 +63,7 @@ fn row_of(
     alloc: Global,
     text: Result<String, AllocError>,
 ) {
-    row_is_told(
-        rt,
-        alloc,
-        text.expect(rt, "memory").as_str(),
-        Status::Ok,
-    );
+    row_is_told(rt, alloc, text.expect(rt, "memory").as_str(), Status::Ok);
 }
 
 /// A report, a query and a leave move a stream to where it is wanted.
