@@ -4,3 +4,5 @@ pub mod Whole
 pub mod Stages
 pub mod Rosters
 pub mod Trials
+pub mod Runs
+pub mod Tables

@@ -10,12 +10,13 @@ use Rattle.br_model.specs.Plane.World.{World}
 use Rattle.br_model.specs.Program.Runs.{body, body_of, run_of, setup_of, told}
 use Rattle.br_model.specs.Table.Limits.{most_bytes}
 use Rattle.br_model.specs.Text.Operands.{longest_section}
+use Rattle.br_model.specs.Text.Roster.{Roster}
 use Rattle.br_model.specs.Text.Scenario.{Scenario, Ending, Going, Ended, Bad, Progress, opened, read, reads}
 use Rattle.br_model.specs.Theorems.WholeLines.{is_line, is_no_feed}
 use Rattle.br_model.proofs.Text.Reading.{closes_keeps, read_rest, scenario_is}
 use Rattle.scenario_reader.specs.declared.reader.Last.{Last}
 use Rattle.scenario_reader.specs.declared.reader.Last.TheVariants as lasts
-use Rattle.scenario_reader.specs.Reading.{Follows, IsBehindDeclarations, ReaderState, captures, ending_of}
+use Rattle.scenario_reader.specs.Reading.{IsBehindDeclarations, ReaderState, ending_of}
 use Rattle.whole_texts.specs.declared.session.Awaits.{Awaits}
 use Rattle.whole_texts.specs.declared.session.Awaits.TheVariants.{Line, Section, Nothing}
 use Rattle.whole_texts.specs.declared.session.Session.{Session}
@@ -24,13 +25,14 @@ use Rattle.whole_texts.specs.declared.session.SessionFault.TheVariants as faults
 use Rattle.scenario_play.specs.declared.play.Taken.TheVariants as taken
 use Rattle.scenario_play.specs.declared.fronts.Front.{Front}
 use Rattle.scenario_play.specs.Fronts.{CutsFront}
-use Rattle.whole_texts.specs.Sessions.{EndsSection, Goes, HasFinished, InSection, IsAt, IsAwaiting, IsKept, IsOut, IsSectionWanted, IsSound, IsWanted, SoAt, Takes}
+use Rattle.whole_texts.specs.Sessions.{Agrees, EndsSection, Goes, HasFinished, InSection, IsAt, IsAwaiting, IsKept, IsOut, IsSectionWanted, IsSound, IsWanted, SoAt, Takes}
 use Rattle.whole_texts.specs.Sessions.{end_of, ended_of, section_of, state, told_at, told_so_far}
-use Rattle.scenario_play.specs.Stages.{Standing}
-use Rattle.scenario_play.specs.Playing.{Played, After, AfterSection, AtSection, EndsIn, IsOver, IsReady, IsSteady, IsTold, ReadsOn, Stands, last_line}
+use Rattle.scenario_play.specs.Playing.{Played, After, AfterSection, AtSection, EndsIn, IsOver, IsReady, IsSteady, IsTold, ReadsOn, Stands}
+use Rattle.whole_texts.specs.declared.lone.Lone.{Lone}
+use Rattle.whole_texts.specs.Stages.{lone}
 use Rattle.whole_texts.specs.Texts.{ends_well}
 use Rattle.scenario_play.proofs.Lines.{closes_over, over_at, reads_none}
-use Rattle.scenario_play.proofs.Steps.{steady_by, steady_of, told_is}
+use Rattle.scenario_play.proofs.Steps.{steady_by, steady_of, told_is, world_before}
 
 -- before the first line
 
@@ -85,15 +87,23 @@ told_when Ended bytes well h = refl
 told_when (Bad n why) bytes well h = refl
 
 -- with its last line
-finishes : (given bytes : List ℕ) (w : Standing) (all : List ℕ) (last : Last) (y : Played) → IsOver given (reads (opened false) bytes) w all last
-    → y.text ≡ all ++ last_line last w.world → IsOut bytes given (ends_well (ending_of last)) y
-finishes given bytes w all last y h is = record {
+finishes : (given bytes : List ℕ) (w y : Session) (last : Last) → HasFinished w last y → IsOver given (reads (opened false) bytes) (state w).stage (state w).text last
+    → Agrees (reads (opened false) bytes) w.play.reader.roster (state w).stage → IsOut bytes given (ends_well (ending_of last)) (state y)
+finishes given bytes w y last done h agrees = record {
   ends = ap ended_of h.ends ∙ ends_so last;
   body =
-      ap (λ (b : List ℕ). given ++ b) is
-      ∙ told_is given bytes w all last
-      (subst (λ (s : Scenario). IsOver given s w all last) (sym (scenario_is bytes)) (closes_over given (read 0 (opened false) bytes) w all last h));
+      ap (λ (b : List ℕ). given ++ b) done.text
+      ∙ told_is given bytes (state w).stage (state w).text last
+      (subst (λ (s : Scenario). IsOver given s (state w).stage (state w).text last) (sym (scenario_is bytes))
+      (closes_over given (read 0 (opened false) bytes) (state w).stage (state w).text last h));
+  agrees =
+      subst (λ (r : ReaderState). Agrees (reads (opened false) bytes) r.roster (lone y.stage.world)) (sym done.reader)
+      (subst (λ (l : Lone). Agrees (reads (opened false) bytes) w.play.reader.roster (lone l.world)) (sym done.stage) agrees);
 }
+
+-- the stage of a scenario that has ended
+over_agrees : (given : List ℕ) (s : Scenario) (x : Played) (last : Last) → IsOver given s x.stage x.text last → x.reader.roster.ports ≡ s.roster.ports → Agrees s x.reader.roster x.stage
+over_agrees given s x last h ports = record { ports = ports; world = world_before s x.stage.world h.so.ran }
 
 -- one after another
 
@@ -108,11 +118,17 @@ module _ (given bytes line : List ℕ) (x y : Played) (h : ReadsOn given (opened
     stands = k.stands;
   }
 
+  line_is : (last : Last) (k : EndsIn given h.scenario (λ more. line ++ 10 ∷ more) y last) → reads (opened false) (bytes ++ (line ++ 10 ∷ [])) ≡ k.scenario
+  line_is last k = ap (λ (p : Progress). p.scenario) (h.reads_so (line ++ 10 ∷ [])) ∙ k.reads_so []
+
   line_over : (last : Last) → EndsIn given h.scenario (λ more. line ++ 10 ∷ more) y last
       → IsOver given (reads (opened false) (bytes ++ (line ++ 10 ∷ []))) y.stage y.text last
   line_over last k =
-      over_at given (reads (opened false) (bytes ++ (line ++ 10 ∷ []))) k.scenario y.stage y.text last
-      (ap (λ (p : Progress). p.scenario) (h.reads_so (line ++ 10 ∷ [])) ∙ k.reads_so []) k.over
+      over_at given (reads (opened false) (bytes ++ (line ++ 10 ∷ []))) k.scenario y.stage y.text last (line_is last k) k.over
+
+  line_agrees : (last : Last) → EndsIn given h.scenario (λ more. line ++ 10 ∷ more) y last → Agrees (reads (opened false) (bytes ++ (line ++ 10 ∷ []))) y.reader.roster y.stage
+  line_agrees last k =
+      over_agrees given (reads (opened false) (bytes ++ (line ++ 10 ∷ []))) y last (line_over last k) (k.ports ∙ ap (λ (s : Scenario). s.roster.ports) (sym (line_is last k)))
 
   to_section : (n : ℕ) → AtSection given h.scenario line n y → InSection (bytes ++ (line ++ 10 ∷ [])) given n y
   to_section n k = record { scenario = h.scenario; before = bytes; line = line; joined = refl; reads_so = h.reads_so; at = k }
@@ -129,14 +145,21 @@ module _ (given bytes section : List ℕ) (x y : Played) (h : InSection bytes gi
     stands = k.stands;
   }
 
-  section_over : (last : Last) → EndsIn given h.scenario (λ more. h.line ++ 10 ∷ (section ++ more)) y last
-      → IsOver given (reads (opened false) (bytes ++ section)) y.stage y.text last
-  section_over last k =
+  section_is : (last : Last) (k : EndsIn given h.scenario (λ more. h.line ++ 10 ∷ (section ++ more)) y last) → reads (opened false) (bytes ++ section) ≡ k.scenario
+  section_is last k =
       let so : read 0 (opened false) (bytes ++ section) ≡ read 0 h.scenario (h.line ++ 10 ∷ (section ++ [])) =
       ap (λ (b : List ℕ). read 0 (opened false) b) (ap (λ (b : List ℕ). b ++ section) h.joined ∙ joined h.before h.line section)
       ∙ h.reads_so (h.line ++ 10 ∷ section)
       ∙ ap (λ (b : List ℕ). read 0 h.scenario (h.line ++ 10 ∷ b)) (sym (append-nil section)) in
-      over_at given (reads (opened false) (bytes ++ section)) k.scenario y.stage y.text last (ap (λ (p : Progress). p.scenario) so ∙ k.reads_so []) k.over
+      ap (λ (p : Progress). p.scenario) so ∙ k.reads_so []
+
+  section_over : (last : Last) → EndsIn given h.scenario (λ more. h.line ++ 10 ∷ (section ++ more)) y last
+      → IsOver given (reads (opened false) (bytes ++ section)) y.stage y.text last
+  section_over last k = over_at given (reads (opened false) (bytes ++ section)) k.scenario y.stage y.text last (section_is last k) k.over
+
+  section_agrees : (last : Last) → EndsIn given h.scenario (λ more. h.line ++ 10 ∷ (section ++ more)) y last → Agrees (reads (opened false) (bytes ++ section)) y.reader.roster y.stage
+  section_agrees last k =
+      over_agrees given (reads (opened false) (bytes ++ section)) y last (section_over last k) (k.ports ∙ ap (λ (s : Scenario). s.roster.ports) (sym (section_is last k)))
 
 -- what is told so far
 
@@ -145,6 +168,7 @@ record IsGoing (bytes given : List ℕ) (x : Played) : Type 0 where
   pub scenario : Scenario
   pub is : reads (opened false) bytes ≡ scenario
   pub going : scenario.ending ≡ Going
+  pub ports : x.reader.roster.ports ≡ scenario.roster.ports
   pub so : IsTold given scenario x.stage x.text
 
 at_line : (bytes given : List ℕ) (x : Played) → ReadsOn given (opened false) (λ more. bytes ++ more) x → IsGoing bytes given x
@@ -154,6 +178,7 @@ at_line bytes given x h = record {
       ap (λ (b : List ℕ). reads (opened false) b) (sym (append-nil bytes))
       ∙ ap (λ (p : Progress). p.scenario) (h.reads_so [] ∙ read_rest h.scenario [] h.stands.follows.going refl (omega arith));
   going = h.stands.follows.going;
+  ports = ap (λ (r : Roster). r.ports) h.stands.follows.roster;
   so = h.stands.so;
 }
 
@@ -164,6 +189,7 @@ at_section bytes given n x some h = record {
       ap (λ (b : List ℕ). reads (opened false) b) h.joined
       ∙ ap (λ (p : Progress). p.scenario) (h.reads_so (h.line ++ 10 ∷ []) ∙ reads_none given h.scenario h.line n x h.at [] some);
   going = h.at.going;
+  ports = ap (λ (r : Roster). r.ports) h.at.follows.roster;
   so = h.at.so;
 }
 
@@ -200,6 +226,20 @@ ends_at (Nothing well) bytes given x h = sym h.ends
 pub session_ends : (x : Session) (bytes given : List ℕ) → IsAt bytes given x → end_of x.awaits ≡ ended_of (reads (opened false) bytes).ending
 session_ends x bytes given h = ends_at x.awaits bytes given (state x) h.so
 
+-- its ports and its world
+
+going_agrees : (bytes given : List ℕ) (x : Played) → IsGoing bytes given x → Agrees (reads (opened false) bytes) x.reader.roster x.stage
+going_agrees bytes given x h =
+    subst (λ (s : Scenario). Agrees s x.reader.roster x.stage) (sym h.is) (record { ports = h.ports; world = world_before h.scenario x.stage.world h.so.ran })
+
+agrees_at : (a : Awaits) (bytes given : List ℕ) (x : Played) → SoAt a bytes given x → Agrees (reads (opened false) bytes) x.reader.roster x.stage
+agrees_at Line bytes given x h = going_agrees bytes given x (at_line bytes given x h)
+agrees_at (Section n) bytes given x h = going_agrees bytes given x (at_section bytes given n x h.0 h.1)
+agrees_at (Nothing well) bytes given x h = h.agrees
+
+pub session_agrees : (x : Session) (bytes given : List ℕ) → IsAt bytes given x → Agrees (reads (opened false) bytes) x.play.reader.roster (lone x.stage.world)
+session_agrees x bytes given h = agrees_at x.awaits bytes given (state x) h.so
+
 -- what is told is let go
 
 module _ (given : List ℕ) (x : Played) (rest : List ℕ) (none : rest ≡ []) where
@@ -233,7 +273,7 @@ module _ (given : List ℕ) (x : Played) (rest : List ℕ) (none : rest ≡ []) 
           at = record { feedless = k.at.feedless; says = k.at.says; going = k.at.going; follows = k.at.follows; so = told_less k.scenario k.at.so };
         },
       )
-  less (Nothing well) bytes h = record { ends = h.ends; body = nothing_more ∙ h.body }
+  less (Nothing well) bytes h = record { ends = h.ends; body = nothing_more ∙ h.body; agrees = h.agrees }
 
 pub lets_go : (x : Session) (t : String Global) → string_bytes t ≡ [] → (bytes given : List ℕ) → IsAt bytes given x → IsAt bytes (told_so_far bytes) (record x { text = t })
 lets_go x t none bytes given h =
@@ -299,8 +339,8 @@ module _ (x : Session) (line : List ℕ) (sound : IsSound x) (wanted : IsWanted 
   takes_last w last taken_so after y h =
       takes_by y (h.taken ∙ taken_so) (subst (λ (a : Awaits). IsAwaiting a y.taken y.play.reader y.stage.world) (sym h.awaits) tt)
       (λ bytes given k. subst (λ (a : Awaits). SoAt a (bytes ++ (line ++ 10 ∷ [])) given (state y)) (sym h.awaits)
-      (finishes given (bytes ++ (line ++ 10 ∷ [])) (state w).stage (state w).text last (state y)
-      (line_over given bytes line (state x) (state w) k last (after given k.scenario k.stands)) h.text))
+      (finishes given (bytes ++ (line ++ 10 ∷ [])) w y last h (line_over given bytes line (state x) (state w) k last (after given k.scenario k.stands))
+      (line_agrees given bytes line (state x) (state w) k last (after given k.scenario k.stands))))
 
 -- a section
 
@@ -326,8 +366,8 @@ module _ (x : Session) (section : List ℕ) where
     taken = h.taken ∙ taken_so;
     awaiting = subst (λ (a : Awaits). IsAwaiting a y.taken y.play.reader y.stage.world) (sym h.awaits) tt;
     so = λ bytes given k. subst (λ (a : Awaits). SoAt a (bytes ++ section) given (state y)) (sym h.awaits)
-        (finishes given (bytes ++ section) (state w).stage (state w).text last (state y)
-        (section_over given bytes section (state x) (state w) k last (after given k.scenario k.line k.at)) h.text);
+        (finishes given (bytes ++ section) w y last h (section_over given bytes section (state x) (state w) k last (after given k.scenario k.line k.at))
+        (section_agrees given bytes section (state x) (state w) k last (after given k.scenario k.line k.at)));
   }
 
 more_taken : (a : Awaits) (n k : ℕ) (r : ReaderState) (w : Option World) → IsAwaiting a n r w → n ≤ k → IsAwaiting a k r w

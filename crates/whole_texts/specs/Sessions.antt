@@ -5,9 +5,10 @@ use Rattle.std.specs.declared.option.Option.TheVariants.{None, Some}
 use Rattle.std.specs.declared.result.Result.{Result}
 use Rattle.std.specs.declared.result.Result.TheVariants.{Ok, Err}
 use Rattle.br_model.specs.Plane.World.{World}
-use Rattle.br_model.specs.Program.Runs.{body, told}
+use Rattle.br_model.specs.Program.Runs.{body, run_of, told}
 use Rattle.br_model.specs.Table.Limits.{most_bytes}
 use Rattle.br_model.specs.Text.Operands.{longest_section}
+use Rattle.br_model.specs.Text.Roster.{Roster}
 use Rattle.br_model.specs.Text.Scenario.{Scenario, Ending, Going, Ended, Bad, opened, read, reads}
 use Rattle.br_model.specs.Theorems.WholeLines.{is_line}
 use Rattle.scenario_reader.specs.declared.reader.Last.{Last}
@@ -17,7 +18,8 @@ use Rattle.whole_texts.specs.declared.session.Awaits.TheVariants.{Line, Section,
 use Rattle.whole_texts.specs.declared.session.Session.{Session}
 use Rattle.whole_texts.specs.declared.session.SessionFault.{SessionFault}
 use Rattle.whole_texts.specs.declared.session.SessionFault.TheVariants as faults
-use Rattle.scenario_play.specs.Playing.{AtSection, IsSteady, Played, ReadsOn, last_line, played}
+use Rattle.scenario_play.specs.Playing.{AtSection, IsSteady, Played, ReadsOn, last_line, played, world_of}
+use Rattle.scenario_play.specs.Stages.{Standing}
 use Rattle.whole_texts.specs.Stages.{lone}
 use Rattle.whole_texts.specs.Texts.{ends_well}
 
@@ -61,10 +63,16 @@ pub record InSection (bytes given : List ℕ) (n : ℕ) (x : Played) : Type 0 wh
   pub reads_so : (more : List ℕ) → read 0 (opened false) (before ++ more) ≡ read 0 scenario more
   pub at : AtSection given scenario line n x
 
+-- The declared ports and the world are those of the scenario.
+pub record Agrees (s : Scenario) (roster : Roster) (x : Standing) : Type 0 where
+  pub ports : roster.ports ≡ s.roster.ports
+  pub world : world_of s.roster x.world ≡ (run_of s).0
+
 -- The scenario has ended with these bytes.
 pub record IsOut (bytes given : List ℕ) (well : Bool) (x : Played) : Type 0 where
   pub ends : ended_of (reads (opened false) bytes).ending ≡ Some well
   pub body : given ++ x.text ≡ told bytes
+  pub agrees : Agrees (reads (opened false) bytes) x.reader.roster x.stage
 
 abbrev pub SoAt : Awaits → List ℕ → List ℕ → Played → Type 0
 SoAt Line bytes given x = ReadsOn given (opened false) (λ more. bytes ++ more) x
@@ -146,6 +154,8 @@ Admits wanted refuses (Err fault) = refuses fault
 pub record HasFinished (old : Session) (last : Last) (new : Session) : Type 0 where
   pub taken : new.taken ≡ old.taken
   pub awaits : new.awaits ≡ Nothing (ends_well (ending_of last))
+  pub reader : new.play.reader ≡ old.play.reader
+  pub stage : new.stage ≡ old.stage
   pub text : string_bytes new.text ≡ string_bytes old.text ++ last_line last old.stage.world
 
 -- the section of the line before was taken, but isn't counted

@@ -1,9 +1,7 @@
 -- A world on the heap alone as a stage.
-use Rattle.std.specs.Prelude.{ℕ, true, List, []}
+use Rattle.std.specs.Prelude.{true, []}
 use Rattle.std.specs.declared.option.Option.{Option}
-use Rattle.br_model.specs.declared.steps.Step.{Step}
 use Rattle.br_model.specs.Plane.World.{World}
-use Rattle.br_model.specs.Table.Setup.{Setup}
 use Rattle.scenario_play.specs.Stages.{Standing}
 
 -- nobody speaks of the run

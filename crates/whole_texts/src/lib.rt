@@ -1,4 +1,4 @@
-//! What texts in memory come to: the transcript of a scenario, whole or line by line, and the table of lines of messages. No handle is
+//! What texts in memory come to: the transcript of a scenario, whole or line by line, its tables, and the table of lines of messages. No handle is
 //! needed.
 #![tactic(auto)]
 
@@ -7,7 +7,9 @@ mod following;
 mod heap_world;
 mod lone;
 mod replaying;
+mod running;
 mod session;
+mod showing;
 mod trying;
 
 pub use br_model::NoMemory;
@@ -15,3 +17,4 @@ pub use following::follow;
 pub use lone::Lone;
 pub use replaying::{Told, replay};
 pub use session::{Session, SessionFault};
+pub use showing::show;

@@ -1,9 +1,11 @@
 //! What a scenario is played on here.
 ghost use Rattle.std.specs.Prelude.{◌≡◌, None};
 ghost use Rattle.std.specs.Option.{option_map};
+ghost use Rattle.whole_texts.specs.Tables.{history_of};
 
 use crate::NoMemory;
 use crate::heap_world::HeapWorld;
+use br_model::change::Change;
 use br_model::steps::Step;
 use br_model::transcript::Line;
 use bridge_command::Roster;
@@ -33,6 +35,16 @@ impl Lone {
         match &self.world {
             Some(world) => Some(world.world()),
             None => None,
+        }
+    }
+
+    /// The accepted changes, the oldest first.
+    pub(crate) fn history(&self) -> &[Change]
+        ensures { result.now ≡ history_of self.now.world }
+    {
+        match &self.world {
+            Some(world) => world.world().history(),
+            None => &[],
         }
     }
 }

@@ -1,5 +1,6 @@
 //! The transcript of a scenario.
 ghost use Rattle.std.specs.Prelude.{◌≡◌, ◌≤◌, ◌∷◌, ◌++◌, [], IfOk, codes, length, string_bytes};
+ghost use Rattle.br_model.specs.Program.Runs.{told};
 ghost use Rattle.br_model.specs.Table.Limits.{most_bytes};
 ghost use Rattle.scenario_reader.specs.Reading.{ending_of};
 ghost use Rattle.whole_texts.specs.Texts.{TellsWhole, ends_well};
@@ -43,7 +44,7 @@ pub(crate) fn first_text(alloc: Global) -> Result<String, NoMemory>
 /// `NoMemory` where the world, the text or a step's lines find no room.
 pub fn replay(alloc: Global, scenario: &[u8]) -> Result<Told, NoMemory>
     requires { length scenario.now ≤ most_bytes }
-    ensures { IfOk result (TellsWhole scenario.now) }
+    ensures { IfOk result (TellsWhole told scenario.now) }
 {
     let mut stage = Lone::new();
     let mut play = Play::make(alloc, false)?;

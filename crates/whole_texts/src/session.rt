@@ -1,18 +1,21 @@
 //! A scenario line by line, and what is told of it.
-ghost use Rattle.std.specs.Prelude.{◌≡◌, ℕ, ◌≤◌, ◌∷◌, ◌++◌, [], List, IfOk, IfSome, OnOk, false, length};
+ghost use Rattle.std.specs.Prelude.{◌≡◌, ℕ, ◌≤◌, ◌∷◌, ◌++◌, [], List, IfOk, IfSome, OnOk, false, length, string_bytes};
 ghost use Rattle.br_model.specs.Text.Operands.{longest_section};
 ghost use Rattle.br_model.specs.Text.Scenario.{opened, reads};
 ghost use Rattle.br_model.specs.Theorems.Invariants.{IsWorld};
 ghost use Rattle.scenario_reader.specs.Reading.{IsBehindDeclarations};
 ghost use Rattle.whole_texts.specs.Sessions.{Admits, EndsSection, Goes, HasFinished, IsAt, IsSectionWanted, IsSound, IsWanted, RefusesLine, RefusesSection, Takes, end_of, ended_of, told_so_far};
 ghost use Rattle.scenario_play.specs.Playing.{IsSteady};
+ghost use Rattle.whole_texts.specs.Tables.{shown};
 ghost use Rattle.whole_texts.specs.Trials.{TellsEnd, Tries, ending_with};
 
 use crate::NoMemory;
 use crate::lone::Lone;
 use crate::replaying::{Told, first_text, is_well};
+use crate::showing::listing_of;
 use crate::trying::{bad_text, end_by};
 use br_model::limits::MOST_BYTES;
+use br_model::listing::Listing;
 use scenario_play::{Play, Taken, first_line};
 use scenario_reader::Last;
 use std::alloc::Global;
@@ -206,6 +209,17 @@ impl Session {
     {
         let end = end_by(alloc, self.play.reader(), line)?;
         bad_text(alloc, end)
+    }
+
+    /// The listing of the table of all that was taken, wherever the scenario stands.
+    ///
+    /// # Errors
+    ///
+    /// `NoMemory` where the table or the text finds no room.
+    pub fn shown(&self, alloc: Global, listing: Listing) -> Result<String, NoMemory>
+        ensures { IfOk result (λ text. (bytes given : List ℕ) → IsAt bytes given self.now → string_bytes text ≡ shown listing bytes) }
+    {
+        listing_of(alloc, listing, self.play.reader().roster(), &self.stage)
     }
 
     /// Takes the whole section of the line before.

@@ -1,4 +1,4 @@
-use Rattle.std.proofs.Common.{◌∙◌, ap, false}
+use Rattle.std.proofs.Common.{false}
 use Rattle.br_model.specs.Text.Scenario.{scenario}
 use Rattle.scenario_play.proofs.Steps.{begins, stands_by}
 use Rattle.whole_texts.proofs.Stages.{fits_lone}

@@ -1,4 +1,4 @@
-use Rattle.std.proofs.Common.{Err, ap, refl, ◌∙◌}
+use Rattle.std.proofs.Common.{Err, ap, ◌∙◌}
 use Rattle.std.proofs.lemmas.Result.{err_from_is_err_and}
 use Rattle.whole_texts.specs.Sessions.{IsSectionWanted, RefusesSection, end_of}
 use Rattle.whole_texts.proofs.Sessions.{refused, section_awaiting, takes_section}
