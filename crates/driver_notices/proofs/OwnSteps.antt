@@ -41,7 +41,7 @@ ends-steps w (ends_idle dom) = refl
 ends-steps w (ends_answered chips e answers) = answered-steps w (record w { chips = chips }) (reacts w e) refl
 ends-steps w ends_published = refl
 
-step-count : (w : World) (step : Step) → (world_step w step).0.steps ≡ w.steps + 1
+pub step-count : (w : World) (step : Step) → (world_step w step).0.steps ≡ w.steps + 1
 step-count w step = let u = record w { steps = w.steps + 1 } in ends-steps u (does-ends u step)
 
 fold-count : (x : World × List NoticeLine) (steps : List Step) → (fold notes x steps).0.steps ≡ x.0.steps + length steps

@@ -4,6 +4,7 @@ use Rattle.std.specs.List.{enumerate_from, flat_map, fold}
 use Rattle.std.proofs.lemmas.Grind.{flat_map-append}
 use Rattle.std.proofs.lemmas.List.{map-append}
 use Rattle.std.proofs.lemmas.List.Elements.{filter-append}
+use Rattle.std.proofs.lemmas.List.Sums.{fold-append}
 use Rattle.br_model.specs.declared.change.Change.{Change}
 use Rattle.br_model.specs.declared.domains.Edition.{Edition}
 use Rattle.br_model.specs.declared.steps.Step.{Step}
@@ -31,6 +32,14 @@ notes-world x y (step ∷ steps) same = notes-world (notes x step) (then_step y 
 pub first-notes : (setup : Setup) (steps : List Step) → (fold notes (first_world setup, []) steps).0 ≡ (run setup steps).0
 unfolding run
 first-notes setup steps = notes-world (first_world setup, []) (first_world setup, []) steps refl
+
+-- with one step more
+pub lines-push : (setup : Setup) (steps : List Step) (step : Step) → lines setup (steps ++ step ∷ []) ≡ lines setup steps ++ lines_in (run setup steps).0 step
+unfolding lines
+lines-push setup steps step =
+    let first : World × List NoticeLine = (first_world setup, []) in
+    ap (λ (x : World × List NoticeLine). x.1) (fold-append notes first steps (step ∷ []))
+    ∙ ap (λ (w : World). (fold notes first steps).1 ++ lines_in w step) (first-notes setup steps)
 
 -- What each step keeps holds at the end.
 module _ (P : World → List NoticeLine → Type 0) (keeps : (w : World) (ls : List NoticeLine) (step : Step) → IsWorld w → P w ls → P (world_step w step).0 (ls ++ lines_in w step)) where

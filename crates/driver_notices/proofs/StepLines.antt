@@ -2,7 +2,7 @@
 use Rattle.std.proofs.Common.{◌≡◌, ℕ, ◌+◌, Bool, true, false, not, cond, List, [], ◌∷◌, ◌++◌, length, map, drop, Option, None, Some, refl, sym, ap, ◌∙◌}
 use Rattle.std.specs.Prelude.{◌==◌, if◌then◌else◌}
 use Rattle.std.specs.List.{AllByRecursion, enumerate_from, flat_map}
-use Rattle.std.specs.Option.{option_map, option_to_list}
+use Rattle.std.specs.Option.{option_map, option_map_or, option_to_list}
 use Rattle.std.proofs.lemmas.Bool.{eqb-true}
 use Rattle.std.proofs.lemmas.List.{append-nil}
 use Rattle.lemmas.proofs.Lists.{drop-length}
@@ -13,6 +13,7 @@ use Rattle.br_model.specs.declared.steps.Step.TheVariants.{Turn}
 use Rattle.br_model.specs.Plane.Chip.{Chip}
 use Rattle.br_model.specs.Plane.ChipSteps.{turns, turns_to}
 use Rattle.br_model.specs.Plane.Steps.{world_step}
+use Rattle.br_model.specs.Plane.Traits.{traits}
 use Rattle.br_model.specs.Plane.World.{World, chip_at, next_of}
 use Rattle.br_model.specs.Table.Change.{deferred}
 use Rattle.br_model.specs.Table.Cut.{deferred_count, deferred_of, synchronous_of}
@@ -20,7 +21,7 @@ use Rattle.br_model.specs.Theorems.Applied.{accepted_in, applied_in, turned_in}
 use Rattle.br_model.proofs.Plane.Stays.{step-accepts}
 use Rattle.driver_notices.specs.declared.line.NoticeLine.{NoticeLine}
 use Rattle.driver_notices.specs.declared.line.NoticeLine.TheVariants.{Told, Queued, Applied}
-use Rattle.driver_notices.specs.Notices.{lines_in, lines_of, taken}
+use Rattle.driver_notices.specs.Notices.{accepted, lines_in, lines_of, taken}
 use Rattle.driver_notices.specs.Views.{accepted_by, queued_by, reached_by, step_of, taken_by}
 
 -- changes with the numbers of a queue that has had so many
@@ -147,6 +148,15 @@ turn-accepts w dom =
 pub step-accepted : (w : World) (step : Step) → flat_map accepted_by (lines_in w step) ≡ accepted_in w step
 step-accepted w (Turn dom) = turn-accepted (w.steps + 1) dom w (chip_at w dom) ∙ sym (turn-accepts w dom)
 step-accepted w step = of-accepted w.setup.domains.edition (w.steps + 1) (deferred_count w.setup.domains.edition w.history) (accepted_in w step)
+
+-- what a turn takes, and then what the step accepts
+pub step-lines : (w : World) (step : Step)
+    → option_map_or (λ dom. taken (w.steps + 1) dom w (chip_at w dom)) (traits step).turn [] ++ accepted w step ≡ lines_in w step
+step-lines w (Turn dom) =
+    let edition = w.setup.domains.edition in
+    let its = taken (w.steps + 1) dom w (chip_at w dom) in
+    ap (λ (l : List Change). its ++ lines_of edition (w.steps + 1) (deferred_count edition w.history) l) (turn-accepts w dom) ∙ append-nil its
+step-lines w step = refl
 
 pub step-queued : (w : World) (step : Step) → flat_map queued_by (lines_in w step)
     ≡ numbered_from (deferred_count w.setup.domains.edition w.history) (deferred_of w.setup.domains.edition (accepted_in w step))

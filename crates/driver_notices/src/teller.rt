@@ -80,6 +80,13 @@ impl Teller {
         }
         Ok(())
     }
+
+    /// How many of them were put into the queues.
+    pub fn count(&self) -> u32
+        ensures { result ≡ self.now.count }
+    {
+        self.count
+    }
 }
 
 fn applied(step: u32, dom: Dom, update: Option<Update>) -> Option<NoticeLine>

@@ -1,0 +1,3 @@
+pub mod EndedStays
+pub mod Answered
+pub mod Reading
