@@ -6,8 +6,10 @@ that were seen. It becomes an observation so:
 - A command that the switch refused is left out.
 - What the switch learned (`extern_learn`) is `cmd fdb add .. extern` behind the step in which it was told, if the port learns in that VLAN;
   what it forgot by itself is `cmd fdb del`. An entry without a VLAN is one of the port's PVID.
-- The mark `offload` behind the command that made the entry is `applied D N` with the largest N: the driver tells it once the entry stands in
-  the switch's table, and takes the updates in their order, so all of them are applied by then.
+- A command that put an entry over another one is a deletion and that command.
+- The mark `offload` behind the command that made the entry is `applied D N` with the largest N: the driver sets it once the entry stands in
+  the switch's table, and takes the updates in their order, so all of them are applied by then. The kernel tells nobody that it is set, so the
+  entries have to be asked for.
 """
 import collections
 import dataclasses
@@ -61,6 +63,8 @@ def read(text):
             return record
         if not all(map(WORD.fullmatch, words)):
             raise Broken("no line of a scenario: %s" % line)
+        if words[:2] == ["cmd", "fdb"]:
+            words[3] = words[3].lower()
         if words[0] in ("cmd", "now", "rx"):
             record.steps.append(Step(words))
         elif words[0] in ("scenario", "bridge", "port"):
@@ -109,6 +113,11 @@ class Tables:
             del self.pvid[device]
         self.forget(lambda at, holder: at == vlan and holder == device)
 
+    def makes_room(self, words):
+        """The deletion ahead of a command that put an entry over another one."""
+        if words[:2] == ["fdb", "add"] and self.entries.pop((int(words[6]), words[2]), None):
+            yield "cmd fdb del %s vlan %s" % (words[2], words[6])
+
     def lines(self, mark):
         """The commands that say what the switch learned or forgot."""
         vlan = mark.vlan or self.pvid.get(mark.device, 0)
@@ -139,6 +148,7 @@ def steps_of(record):
     for step in record.steps:
         if not step.taken:
             continue
+        yield from tables.makes_room(step.words[1:])
         yield " ".join(step.words)
         if step.words[0] == "cmd":
             tables.follow(step.words[1:])
