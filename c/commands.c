@@ -1,6 +1,6 @@
-/* Commands of the program over the library, for tools/test: `replay`, `follow` (of standard input), `gen NUMBER COUNT`, and `check` (of the
-   two files that are named); and `session`, a replay line by line, but for a last line that is cut off, and `trial`, the same with each line
-   tried before. In front of them may stand `--room N`:
+/* Commands of the program over the library, for tools/test: `replay`, `follow`, `show TABLE` (of standard input), `gen NUMBER COUNT`, and
+   `check` (of the two files that are named); and `session`, a replay line by line, but for a last line that is cut off, and `trial`, the same with each line
+   tried before; and `shown TABLE`, the table of a session that has taken the same lines. In front of them may stand `--room N`:
    the room of the first call; `--fail N`: the Nth allocation of the library is refused; `--thread`: in a thread with 512 kB of stack;
    `--times N`. */
 #include <pthread.h>
@@ -34,9 +34,14 @@ static size_t first_room = 1 << 20, times = 1;
 static struct text one, two;
 static int answer;
 
+static uint8_t table_of(const char *word) {
+    return !strcmp(word, "fdb") ? SWITCHBR_FDB : !strcmp(word, "vlan") ? SWITCHBR_VLAN : !strcmp(word, "mdb") ? SWITCHBR_MDB : 3;
+}
+
 static switchbr_status call(uint8_t *out, size_t room, size_t *len) {
     if (!strcmp(words[0], "replay")) return switchbr_replay(one.bytes, one.len, out, room, len);
     if (!strcmp(words[0], "follow")) return switchbr_follow(one.bytes, one.len, out, room, len);
+    if (!strcmp(words[0], "show")) return switchbr_show(table_of(words[1]), one.bytes, one.len, out, room, len);
     return switchbr_generate(strtoull(words[1], NULL, 10), strtoul(words[2], NULL, 10), out, room, len);
 }
 
@@ -70,7 +75,7 @@ static void *give(void *nothing) {
 static switchbr_session session = SWITCHBR_SESSION_INIT;
 static uint8_t *shown;
 static size_t len;
-static int is_quiet, is_trial;
+static int is_quiet, is_trial, is_table;
 
 /* Writes what a call on the session has given. */
 static int show(switchbr_status status) {
@@ -110,6 +115,17 @@ static int tried_line(const uint8_t *line, size_t size) {
     return status;
 }
 
+/* Writes a table of what was taken. */
+static void show_table(void) {
+    switchbr_status status = switchbr_shown(&session, table_of(words[1]), shown, first_room, &len);
+    if (status == SWITCHBR_NO_ROOM) {
+        shown = __real_realloc(shown, first_room = len);
+        status = switchbr_shown(&session, table_of(words[1]), shown, first_room, &len);
+    }
+    if (status) answer = status;
+    else fwrite(shown, 1, len, stdout);
+}
+
 static void step_by_step(void) {
     size_t at = 0;
     shown = __real_malloc(first_room + 1);
@@ -128,13 +144,14 @@ static void step_by_step(void) {
     }
     if (answer == SWITCHBR_CLOSED) answer = SWITCHBR_OK;
     else if (!answer) answer = switchbr_line(&session, (const uint8_t *)"", 0, shown, first_room, &len) == SWITCHBR_CLOSED ? SWITCHBR_OK : SWITCHBR_BAD_LINE;
+    if (is_table && answer != SWITCHBR_NO_MEMORY) show_table();
     if (switchbr_end(&session) != (answer == SWITCHBR_NO_MEMORY ? SWITCHBR_CLOSED : SWITCHBR_OK)) exit(108);
     free(shown);
 }
 
 static void *steps(void *nothing) {
     for (is_quiet = 1; times > 1; times--) step_by_step();
-    is_quiet = 0;
+    is_quiet = is_table;
     step_by_step();
     return nothing;
 }
@@ -153,7 +170,8 @@ int main(int count, char **given) {
     else if (strcmp(words[0], "gen")) one = read_all(NULL);
     refused = fail ? asked + fail : 0;
     is_trial = !strcmp(words[0], "trial");
-    void *(*run)(void *) = is_trial || !strcmp(words[0], "session") ? steps : give;
+    is_table = !strcmp(words[0], "shown");
+    void *(*run)(void *) = is_trial || is_table || !strcmp(words[0], "session") ? steps : give;
     if (in_thread) {
         pthread_attr_t small;
         pthread_t thread;

@@ -18,7 +18,7 @@
      CLOSED     0                 nothing is written   as before
      NO_MEMORY  0                 nothing is written   is closed
 
-   `switchbr_try` leaves a session as it was, whatever its status.
+   `switchbr_try` and `switchbr_shown` leave a session as it was, whatever their status.
 */
 #ifndef SWITCHBR_H
 #define SWITCHBR_H
@@ -52,7 +52,7 @@ static inline const char *switchbr_strerror(switchbr_status status) {
     switch (status) {
     case SWITCHBR_OK: return "success";
     case SWITCHBR_DIFFERS: return "the transcript differs";
-    case SWITCHBR_USAGE: return "another line or section is wanted";
+    case SWITCHBR_USAGE: return "another line, section or table is wanted";
     case SWITCHBR_BAD_LINE: return "a line is bad";
     case SWITCHBR_NO_MEMORY: return "out of memory";
     case SWITCHBR_TOO_LONG: return "the input is too long";
@@ -68,6 +68,13 @@ static inline const char *switchbr_strerror(switchbr_status status) {
 switchbr_status switchbr_replay(const uint8_t *scenario, size_t size, uint8_t *out, size_t room, size_t *len);
 switchbr_status switchbr_follow(const uint8_t *messages, size_t size, uint8_t *out, size_t room, size_t *len);
 switchbr_status switchbr_generate(uint64_t number, uint32_t count, uint8_t *out, size_t room, size_t *len);
+
+/* The tables that can be shown: address entries, members of VLANs, members of groups. */
+enum { SWITCHBR_FDB = 0, SWITCHBR_VLAN = 1, SWITCHBR_MDB = 2 };
+
+/* A table at the end of a scenario (`show fdb`, `show vlan`, `show mdb`). As above, but that of a bad scenario the text is `bad N WHY` alone;
+   and USAGE: there is no table of this number. */
+switchbr_status switchbr_show(uint8_t table, const uint8_t *scenario, size_t size, uint8_t *out, size_t room, size_t *len);
 
 /* Whether a transcript, of this program or of another, is what the scenario tells; its lines `post ID at POINT` are read.
    OK: it is. DIFFERS: it isn't, first in its line *line, counted from 1. BAD_LINE: line *line of the scenario is bad.
@@ -103,6 +110,11 @@ switchbr_status switchbr_text(switchbr_session *session, uint8_t *out, size_t ro
    OK: the line would be taken; *len is 0. BAD_LINE: the scenario would end; the text is `bad N WHY`, and no transcript.
    NO_ROOM: the same call with *len bytes of room gives the text. NO_MEMORY. USAGE, TOO_LONG, CLOSED: as `line` would answer. */
 switchbr_status switchbr_try(switchbr_session *session, const uint8_t *line, size_t size, uint8_t *out, size_t room, size_t *len);
+
+/* A table of all that was taken, wherever the scenario stands: as `switchbr_show` would give it were the line `end` next. The session is as
+   before, whatever the status. OK. NO_ROOM: the same call with *len bytes of room gives the text. NO_MEMORY. USAGE: there is no table of this
+   number. CLOSED: the session isn't open. */
+switchbr_status switchbr_shown(switchbr_session *session, uint8_t table, uint8_t *out, size_t room, size_t *len);
 
 /* Ends a session, wherever it stands, and frees it. OK, or CLOSED: it wasn't open. */
 switchbr_status switchbr_end(switchbr_session *session);

@@ -10,7 +10,7 @@ import pathlib
 from types import TracebackType
 from typing import Callable, Dict, List, Optional, Type, Union
 
-__all__ = ["BadLine", "Sent", "Session", "TooLong", "check", "follow", "generate", "replay"]
+__all__ = ["BadLine", "Sent", "Session", "TooLong", "check", "follow", "generate", "replay", "show"]
 __version__ = "0.1.0"
 
 Text = Union[str, bytes]
@@ -31,10 +31,12 @@ _DECLARED = {
     "switchbr_replay": (ctypes.c_uint8, [_bytes, _size, _room, _size, _len]),
     "switchbr_follow": (ctypes.c_uint8, [_bytes, _size, _room, _size, _len]),
     "switchbr_generate": (ctypes.c_uint8, [ctypes.c_uint64, ctypes.c_uint32, _room, _size, _len]),
+    "switchbr_show": (ctypes.c_uint8, [ctypes.c_uint8, _bytes, _size, _room, _size, _len]),
     "switchbr_check": (ctypes.c_uint8, [_bytes, _size, _bytes, _size, ctypes.POINTER(ctypes.c_uint32)]),
     "switchbr_open": (ctypes.c_uint8, [_handle]),
     "switchbr_line": (ctypes.c_uint8, [_handle, _bytes, _size, _room, _size, _len]),
     "switchbr_try": (ctypes.c_uint8, [_handle, _bytes, _size, _room, _size, _len]),
+    "switchbr_shown": (ctypes.c_uint8, [_handle, ctypes.c_uint8, _room, _size, _len]),
     "switchbr_section": (ctypes.c_uint8, [_handle, _bytes, _size, _room, _size, _len]),
     "switchbr_text": (ctypes.c_uint8, [_handle, _room, _size, _len]),
     "switchbr_end": (ctypes.c_uint8, [_handle]),
@@ -104,7 +106,7 @@ def _told(room: int, call: Callable[..., int]) -> str:
         status = call(out, len(out), ctypes.byref(size))
         if status != _NO_ROOM:
             break
-    _no_fault(status)
+    _is_wanted(status)
     text = ctypes.string_at(out, size.value).decode()
     _no_bad_line(status, text)
     return text
@@ -120,6 +122,21 @@ def follow(messages: Text) -> str:
     """The table that lines of messages give, as `switchbr follow` writes it; `switchbr monitor` writes such lines."""
     given = _given(messages)
     return _told(len(given) + 4096, lambda *out: _LIB.switchbr_follow(given, len(given), *out))
+
+
+_TABLES = {"fdb": 0, "vlan": 1, "mdb": 2}
+
+
+def _table(table: str) -> int:
+    if table not in _TABLES:
+        raise ValueError("table must be fdb, vlan or mdb")
+    return _TABLES[table]
+
+
+def show(table: str, scenario: Text) -> str:
+    """A table at the end of a scenario, as `switchbr show TABLE` writes it: `fdb`, `vlan` or `mdb`."""
+    number, given = _table(table), _given(scenario)
+    return _told(len(given) + 4096, lambda *out: _LIB.switchbr_show(number, given, len(given), *out))
 
 
 def generate(number: int, count: int) -> str:
@@ -207,6 +224,11 @@ class Session:
         except BadLine as bad:
             return bad
         return None
+
+    def show(self, table: str) -> List[str]:
+        """The lines of a table of all that was taken (`fdb`, `vlan` or `mdb`), wherever the scenario stands; their last one is `end`."""
+        number = _table(table)
+        return _told(4096, lambda *out: _LIB.switchbr_shown(self._session, number, *out)).splitlines()
 
     def section(self, section: bytes) -> List[str]:
         """Takes the whole section of the line `capture LENGTH` before."""

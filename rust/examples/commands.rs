@@ -1,10 +1,11 @@
-//! Commands of the program over the library, for tools/test: `replay` and `follow` of standard input, `gen NUMBER COUNT`, `check` of two files;
-//! `session`, a replay line by line, but for a last line that is cut off; and `trial`, the same with each line tried before.
+//! Commands of the program over the library, for tools/test: `replay`, `follow` and `show TABLE` of standard input, `gen NUMBER COUNT`, `check` of
+//! two files; `session`, a replay line by line, but for a last line that is cut off; `trial`, the same with each line tried before; and
+//! `shown TABLE`, the table of a session that has taken the same lines.
 use std::env::args;
 use std::fs::read;
 use std::io::{Read, Write, stdin, stdout};
 use std::process::ExitCode;
-use switchbr::{Fault, Session, check, follow, generate, replay};
+use switchbr::{Fault, Session, Table, check, follow, generate, replay, show};
 
 fn input() -> Vec<u8> {
     let mut all = Vec::new();
@@ -23,6 +24,33 @@ fn section_behind(line: &[u8]) -> usize {
         [b"capture", length] => std::str::from_utf8(length).ok().and_then(|digits| digits.parse().ok()).unwrap_or(0),
         _ => 0,
     }
+}
+
+fn table(word: &str) -> Table {
+    match word {
+        "fdb" => Table::Fdb,
+        "vlan" => Table::Vlan,
+        _ => Table::Mdb,
+    }
+}
+
+/// The table of a session that has taken all lines up to the end or the first bad one.
+fn shown(table: Table, mut rest: &[u8]) -> Result<String, Fault> {
+    let mut session = Session::open()?;
+    while !rest.is_empty() {
+        let feed = rest.iter().position(|byte| *byte == b'\n');
+        let line = &rest[..feed.unwrap_or(rest.len())];
+        rest = &rest[line.len() + usize::from(feed.is_some())..];
+        let length = section_behind(line);
+        if feed.is_none() && !is_end(line) || session.line(line).is_err() || length > rest.len() {
+            break;
+        }
+        if length > 0 && session.section(&rest[..length]).is_err() {
+            break;
+        }
+        rest = &rest[length..];
+    }
+    session.show(table)
 }
 
 /// Writes what is told, and answers the status.
@@ -63,6 +91,8 @@ fn main() -> ExitCode {
     let told = match words[..] {
         ["replay"] => replay(&input()),
         ["follow"] => follow(&input()),
+        ["show", word] => show(table(word), &input()),
+        ["shown", word] => shown(table(word), &input()),
         ["gen", number, count] => generate(number.parse().expect("a number"), count.parse().expect("a count")),
         ["check", scenario, transcript] => {
             let files = read(scenario).and_then(|one| Ok((one, read(transcript)?))).expect("both are read");

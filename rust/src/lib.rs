@@ -29,10 +29,12 @@ extern "C" {
     fn switchbr_replay(scenario: *const u8, size: usize, out: *mut u8, room: usize, len: *mut usize) -> u8;
     fn switchbr_follow(messages: *const u8, size: usize, out: *mut u8, room: usize, len: *mut usize) -> u8;
     fn switchbr_generate(number: u64, count: u32, out: *mut u8, room: usize, len: *mut usize) -> u8;
+    fn switchbr_show(table: u8, scenario: *const u8, size: usize, out: *mut u8, room: usize, len: *mut usize) -> u8;
     fn switchbr_check(scenario: *const u8, size: usize, transcript: *const u8, transcript_size: usize, line: *mut u32) -> u8;
     fn switchbr_open(session: *mut Handle) -> u8;
     fn switchbr_line(session: *mut Handle, line: *const u8, size: usize, out: *mut u8, room: usize, len: *mut usize) -> u8;
     fn switchbr_try(session: *mut Handle, line: *const u8, size: usize, out: *mut u8, room: usize, len: *mut usize) -> u8;
+    fn switchbr_shown(session: *mut Handle, table: u8, out: *mut u8, room: usize, len: *mut usize) -> u8;
     fn switchbr_section(session: *mut Handle, section: *const u8, size: usize, out: *mut u8, room: usize, len: *mut usize) -> u8;
     fn switchbr_text(session: *mut Handle, out: *mut u8, room: usize, len: *mut usize) -> u8;
     fn switchbr_end(session: *mut Handle) -> u8;
@@ -133,6 +135,29 @@ pub fn follow(messages: &[u8]) -> Result<String, Fault> {
     told(size + 4096, |out, room, len| unsafe { switchbr_follow(at, size, out, room, len) })
 }
 
+/// A table of a bridge.
+#[derive(Debug, Clone, Copy, PartialEq, Eq)]
+pub enum Table {
+    /// Address entries.
+    Fdb = 0,
+    /// The members of VLANs.
+    Vlan = 1,
+    /// The members of groups.
+    Mdb = 2,
+}
+
+/// A table at the end of a scenario, as `switchbr show` writes it.
+///
+/// ```
+/// let members = switchbr::show(switchbr::Table::Vlan, b"scenario 1\nport 1 p1 soft\ncmd port up p1\nend\n")?;
+/// assert_eq!(members, "host 1 untagged\np1 1 pvid untagged\nend\n");
+/// # Ok::<(), switchbr::Fault>(())
+/// ```
+pub fn show(table: Table, scenario: &[u8]) -> Result<String, Fault> {
+    let (at, size) = (scenario.as_ptr(), scenario.len());
+    told(size + 4096, |out, room, len| unsafe { switchbr_show(table as u8, at, size, out, room, len) })
+}
+
 /// A scenario of so many frames, as `switchbr gen` writes it.
 pub fn generate(number: u64, count: u32) -> Result<String, Fault> {
     let first_room = 256 * count.min(100_000) as usize + 4096;
@@ -213,6 +238,12 @@ impl Session {
         let status = unsafe { switchbr_try(&mut self.handle, line.as_ptr(), line.len(), out.as_mut_ptr(), out.len(), &mut len) };
         out.truncate(len);
         given(status, out).map(|_| ())
+    }
+
+    /// A table of all that was taken, wherever the scenario stands. The session is as before.
+    pub fn show(&mut self, table: Table) -> Result<String, Fault> {
+        let handle: *mut Handle = &mut self.handle;
+        told(4096, |out, room, len| unsafe { switchbr_shown(handle, table as u8, out, room, len) })
     }
 
     /// Takes the whole section of the line `capture LENGTH` before.

@@ -3,3 +3,4 @@ pub mod Looses
 pub mod Handles
 pub mod Sessions
 pub mod Trials
+pub mod Asking

@@ -2,8 +2,9 @@
 //! no argument.
 #![tactic(auto)]
 
-ghost use Rattle.std.specs.Prelude.{◌≡◌, ◌≤◌, ◌∷◌, [], ℕ, None, Some, length, true};
+ghost use Rattle.std.specs.Prelude.{◌≡◌, ◌≤◌, ◌∷◌, [], ℕ, IfOk, List, None, Some, length, string_bytes, true};
 ghost use Rattle.br_model.specs.Program.Generator.{made, most_frames};
+ghost use Rattle.br_model.specs.Program.Listings.{listed};
 ghost use Rattle.br_model.specs.Program.Runs.{told};
 ghost use Rattle.br_model.specs.Table.Limits.{most_bytes};
 ghost use Rattle.br_model.specs.Text.Scenario.{scenario as scenario_of};
@@ -11,6 +12,7 @@ ghost use Rattle.neigh_netlink.specs.Follow.{followed, follows};
 ghost use Rattle.whole_texts.specs.Messages.{lines_end_well};
 ghost use Rattle.whole_texts.specs.Sessions.{IsSound};
 ghost use Rattle.whole_texts.specs.Texts.{ends_well};
+ghost use Rattle.switchbr_c.specs.Asking.{AsksTable, Shows, listing_of as listing_numbered};
 ghost use Rattle.switchbr_c.specs.Calls.{Checks, Tells, is_of};
 ghost use Rattle.switchbr_c.specs.Sessions.{Ends, GivesKept, GivesText, MayRefuse, MaySettle, Opens, PassesLine, PassesSection, Refuses, Settles, fine_at};
 ghost use Rattle.switchbr_c.specs.Trials.{TriesLine, status_of as number_of};
@@ -20,12 +22,14 @@ mod loose;
 #[cfg(test)]
 mod tests;
 
+use br_model::NoMemory;
 use br_model::limits::{MOST_BYTES, MOST_FRAMES};
+use br_model::listing::Listing;
 use handle::Handle;
 use scenario_generator::generate;
 use std::alloc::Global;
 use transcript_check::{Answer, CheckFault, check};
-use whole_texts::{Session, SessionFault, follow, replay};
+use whole_texts::{Session, SessionFault, follow, replay, show};
 
 // The numbers of the program's statuses, and two more.
 const DONE: u8 = 0;
@@ -105,6 +109,57 @@ pub extern "C" fn switchbr_follow(
         Ok(told) => give(told.text.as_bytes(), told.well, out, len),
         Err(_) => NO_MEMORY,
     }
+}
+
+/// The table with this number: the forwarding database, the members of VLANs, those of groups.
+fn listing_of(table: u8) -> Option<Listing>
+    ensures { result ≡ listing_numbered table }
+{
+    match table {
+        0 => Some(Listing::Fdb),
+        1 => Some(Listing::Vlan),
+        2 => Some(Listing::Mdb),
+        _ => None,
+    }
+}
+
+/// The listing of a table at the end of a scenario.
+fn give_listing(
+    alloc: Global,
+    listing: Listing,
+    scenario: &[u8],
+    out: &mut [u8],
+    len: &mut usize,
+) -> u8
+    ensures { Tells (ends_well (scenario_of scenario.now).ending) (listed listing scenario.now) (length scenario.now) most_bytes
+        out.old out.new len.new result }
+{
+    *len = 0;
+    if scenario.len() > MOST_BYTES as usize {
+        return TOO_LONG;
+    }
+    match show(alloc, listing, scenario) {
+        Ok(told) => give(told.text.as_bytes(), told.well, out, len),
+        Err(_) => NO_MEMORY,
+    }
+}
+
+/// A table at the end of a scenario.
+#[unsafe(no_mangle)]
+pub extern "C" fn switchbr_show(
+    alloc: Global,
+    table: u8,
+    scenario: &[u8],
+    out: &mut [u8],
+    len: &mut usize,
+) -> u8
+    ensures { Shows (listing_numbered table) scenario.now out.old out.new len.new result }
+{
+    *len = 0;
+    let Some(listing) = listing_of(table) else {
+        return USAGE;
+    };
+    give_listing(alloc, listing, scenario, out, len)
 }
 
 /// The generated scenario of so many frames, from this number on.
@@ -298,6 +353,41 @@ pub extern "C" fn switchbr_try(
         Ok(told) => give(told.text.as_bytes(), told.well, out, len),
         Err(fault) => status_of(fault),
     }
+}
+
+/// Gives an answer to the room, where there is memory for it.
+fn give_answer(answer: Result<String, NoMemory>, out: &mut [u8], len: &mut usize) -> u8
+    ensures tells { (text : List ℕ) → IfOk answer (λ t. string_bytes t ≡ text) → Tells true text 0 0 out.old out.new len.new result }
+    ensures others { is_of (0 ∷ 6 ∷ 16 ∷ []) result ≡ true }
+{
+    *len = 0;
+    match answer {
+        Ok(text) => give(text.as_bytes(), true, out, len),
+        Err(_) => NO_MEMORY,
+    }
+}
+
+/// A table of what a session has taken.
+#[unsafe(no_mangle)]
+pub extern "C" fn switchbr_shown(
+    alloc: Global,
+    session: &mut Handle,
+    table: u8,
+    out: &mut [u8],
+    len: &mut usize,
+) -> u8
+    ensures { AsksTable session.old.value (listing_numbered table) out.old out.new len.new session.new.value result }
+{
+    *len = 0;
+    let Some(listing) = listing_of(table) else {
+        return USAGE;
+    };
+    let Some(asked) = session.take(alloc) else {
+        return CLOSED;
+    };
+    let answer = asked.shown(alloc, listing);
+    session.put(alloc, asked);
+    give_answer(answer, out, len)
 }
 
 /// Gives a session the section of the line before.

@@ -2,7 +2,8 @@
 use super::handle::Handle;
 use super::{
     switchbr_abi, switchbr_check, switchbr_end, switchbr_follow, switchbr_generate, switchbr_line,
-    switchbr_open, switchbr_replay, switchbr_section, switchbr_text, switchbr_try,
+    switchbr_open, switchbr_replay, switchbr_section, switchbr_show, switchbr_shown, switchbr_text,
+    switchbr_try,
 };
 use std::alloc::Global;
 use std::process::Abort;
@@ -178,5 +179,66 @@ fn lines_are_tried(rt: HostRuntime) {
     assert_told(&rt, (status, len), &small, (16, 11), &[b'.'; 9]);
     assert_lines(&rt, rt.alloc(), &mut session, BEHIND_A_TRIAL);
     assert_tried(&rt, rt.alloc(), &mut session, &[(b"end", 17, b"")]);
+    session.end(rt.alloc());
+}
+
+#[test]
+fn tables_of_scenarios(rt: HostRuntime) {
+    let mut out = [b'.'; 43];
+    let mut len = 9;
+    let status = switchbr_show(rt.alloc(), 1, SCENARIO, &mut out[..38], &mut len);
+    assert_told(&rt, (status, len), &out, (16, 39), &[b'.'; 43]);
+    let status = switchbr_show(rt.alloc(), 3, SCENARIO, &mut out, &mut len);
+    assert_told(&rt, (status, len), &out, (2, 0), &[b'.'; 43]);
+    let status = switchbr_show(rt.alloc(), 1, SCENARIO, &mut out, &mut len);
+    let told = b"host 1 untagged\np1 1 pvid untagged\nend\n....";
+    assert_told(&rt, (status, len), &out, (0, 39), told);
+    let status = switchbr_show(rt.alloc(), 0, BAD, &mut out[..11], &mut len);
+    assert_told(&rt, (status, len), &out[..15], (3, 11), b"bad 3 port\ngged");
+}
+
+const BEFORE_A_TABLE: &[Row] = &[
+    (b"scenario 1", 0, b"transcript 1\n"),
+    (b"port 1 p1 chip 1", 0, b""),
+    (b"cmd port up p1", 0, b"ok 1 3\n"),
+    (
+        b"cmd fdb add 02:00:00:00:00:0a dev p1 vlan 1 static",
+        0,
+        b"ok 2 1\n",
+    ),
+];
+
+/// The number of a table, the status of the call, and what it tells.
+type Shown = (u8, u8, &'static [u8]);
+
+const SHOWN: &[Shown] = &[
+    (0, 0, b"02:00:00:00:00:0a dev p1 vlan 1 static\nend\n"),
+    (1, 0, b"host 1 untagged\np1 1 pvid untagged\nend\n"),
+    (2, 0, b"end\n"),
+    (3, 2, b""),
+];
+
+fn assert_shown(rt: &impl Abort, alloc: Global, session: &mut Handle, rows: &[Shown]) {
+    for row in rows {
+        let (table, status, told) = *row;
+        let mut out = [0; 64];
+        let mut len = 9;
+        let found = switchbr_shown(alloc, session, table, &mut out, &mut len);
+        assert_eq!(rt; (found, len), (status, told.len()));
+        assert_eq!(rt; out.get(..len), Some(told));
+    }
+}
+
+#[test]
+fn tables_of_a_session(rt: HostRuntime) {
+    let mut session = Handle::none();
+    assert_shown(&rt, rt.alloc(), &mut session, &[(0, 17, b""), (3, 2, b"")]);
+    assert_eq!(&rt; switchbr_open(rt.alloc(), &mut session), 0);
+    assert_shown(&rt, rt.alloc(), &mut session, &[(0, 0, b"end\n")]);
+    assert_lines(&rt, rt.alloc(), &mut session, BEFORE_A_TABLE);
+    assert_shown(&rt, rt.alloc(), &mut session, SHOWN);
+    let bad: &[Row] = &[(b"end end", 3, b"bad 5 word\n")];
+    assert_lines(&rt, rt.alloc(), &mut session, bad);
+    assert_shown(&rt, rt.alloc(), &mut session, SHOWN);
     session.end(rt.alloc());
 }
