@@ -193,8 +193,9 @@ fn tables_of_scenarios(rt: HostRuntime) {
     let status = switchbr_show(rt.alloc(), 1, SCENARIO, &mut out, &mut len);
     let told = b"host 1 untagged\np1 1 pvid untagged\nend\n....";
     assert_told(&rt, (status, len), &out, (0, 39), told);
-    let status = switchbr_show(rt.alloc(), 0, BAD, &mut out[..11], &mut len);
-    assert_told(&rt, (status, len), &out[..15], (3, 11), b"bad 3 port\ngged");
+    let mut small = [b'.'; 15];
+    let status = switchbr_show(rt.alloc(), 0, BAD, &mut small[..11], &mut len);
+    assert_told(&rt, (status, len), &small, (3, 11), b"bad 3 port\n....");
 }
 
 const BEFORE_A_TABLE: &[Row] = &[
